@@ -1,0 +1,275 @@
+-- The maps on digits (specs/Maps.antt) and those on inner points are the same: two words have the same map at every
+-- dyadic point from 0 to 1 just when they move every inner point alike.
+--     Low        0, or an inner point                      value p      the point below 1 that digits name
+--     onInner g  g, with 0 fixed                           withDigit d  a digit put in front
+-- Assumes nothing.
+use mathlib.Core.Path.{_≡_, refl, sym, _∙_, ap, subst, subst₂}
+use mathlib.Core.List.{List, [], _∷_}
+use mathlib.Core.Logic.{_↔_}
+use Prim.Native.Nat.{ℕ, zero, suc}
+use native.Mathlib.Omega.{arith}
+use Rattle.group.specs.Letters.{Letter, 'a, 'A, 'b, 'B, Word}
+use Rattle.group.specs.Points.{Digit, 𝟎, 𝟏, Point, below1, end1, firstDigit, laterDigits, digitAt, SamePoint}
+use Rattle.group.specs.Maps.{rule-a, rule-A, rule-b, rule-B, moveDigits, moveLetter, mapOf, SameMap}
+use Rattle.group.proofs.Inner.{Inner, half, lower, upper, map-a, map-A, lift, letterMap, act, A-undoes-a}
+
+pub data Low : Type 0 where
+  nought : Low
+  inside : Inner → Low
+
+abbrev withDigit : Digit → Low → Low
+withDigit 𝟎 nought = nought
+withDigit 𝟎 (inside p) = inside (lower p)
+withDigit 𝟏 nought = inside half
+withDigit 𝟏 (inside p) = inside (upper p)
+
+abbrev value : List Digit → Low
+value [] = nought
+value (d ∷ p) = withDigit d (value p)
+
+abbrev onInner : (Inner → Inner) → Low → Low
+onInner g nought = nought
+onInner g (inside p) = inside (g p)
+
+on-inner-id : (c : Low) → onInner (λ p. p) c ≡ c
+on-inner-id nought = refl
+on-inner-id (inside p) = refl
+
+on-inner-twice : (f g : Inner → Inner) (c : Low) → onInner f (onInner g c) ≡ onInner (λ p. f (g p)) c
+on-inner-twice f g nought = refl
+on-inner-twice f g (inside p) = refl
+
+on-inner-cong : (f g : Inner → Inner) → ((p : Inner) → f p ≡ g p) → (c : Low) → onInner f c ≡ onInner g c
+on-inner-cong f g h nought = refl
+on-inner-cong f g h (inside p) = ap inside (h p)
+
+-- The three rules of a: 0 by 00, 10 by 01, 11 by 1.
+a-on-0 : (c : Low) → withDigit 𝟎 (withDigit 𝟎 c) ≡ onInner map-a (withDigit 𝟎 c)
+a-on-0 nought = refl
+a-on-0 (inside p) = refl
+
+a-on-10 : (c : Low) → withDigit 𝟎 (withDigit 𝟏 c) ≡ onInner map-a (withDigit 𝟏 (withDigit 𝟎 c))
+a-on-10 nought = refl
+a-on-10 (inside p) = refl
+
+a-on-11 : (c : Low) → withDigit 𝟏 c ≡ onInner map-a (withDigit 𝟏 (withDigit 𝟏 c))
+a-on-11 nought = refl
+a-on-11 (inside p) = refl
+
+-- Those of A are the same, read the other way.
+undone : (c d : Low) → d ≡ onInner map-a c → c ≡ onInner map-A d
+undone c d e =
+    sym
+    (ap (onInner map-A) e
+    ∙ on-inner-twice map-A map-a c
+    ∙ on-inner-cong (λ p. map-A (map-a p)) (λ p. p) A-undoes-a c
+    ∙ on-inner-id c)
+
+rule-a-value : (d e : Digit) (r : List Digit) → value (rule-a d e r) ≡ onInner map-a (value (d ∷ e ∷ r))
+rule-a-value 𝟎 e r = a-on-0 (withDigit e (value r))
+rule-a-value 𝟏 𝟎 r = a-on-10 (value r)
+rule-a-value 𝟏 𝟏 r = a-on-11 (value r)
+
+rule-A-value : (d e : Digit) (r : List Digit) → value (rule-A d e r) ≡ onInner map-A (value (d ∷ e ∷ r))
+rule-A-value 𝟎 𝟎 r = undone (value (𝟎 ∷ r)) (value (𝟎 ∷ 𝟎 ∷ r)) (a-on-0 (value r))
+rule-A-value 𝟎 𝟏 r = undone (value (𝟏 ∷ 𝟎 ∷ r)) (value (𝟎 ∷ 𝟏 ∷ r)) (a-on-10 (value r))
+rule-A-value 𝟏 e r = undone (value (𝟏 ∷ 𝟏 ∷ e ∷ r)) (value (𝟏 ∷ e ∷ r)) (a-on-11 (withDigit e (value r)))
+
+-- b and B are a and A behind a leading digit 1, and change nothing behind a leading 0.
+rule-b-behind-1 : (e f : Digit) (r : List Digit) → rule-b 𝟏 e f r ≡ 𝟏 ∷ rule-a e f r
+rule-b-behind-1 𝟎 f r = refl
+rule-b-behind-1 𝟏 𝟎 r = refl
+rule-b-behind-1 𝟏 𝟏 r = refl
+
+rule-B-behind-1 : (e f : Digit) (r : List Digit) → rule-B 𝟏 e f r ≡ 𝟏 ∷ rule-A e f r
+rule-B-behind-1 𝟎 𝟎 r = refl
+rule-B-behind-1 𝟎 𝟏 r = refl
+rule-B-behind-1 𝟏 f r = refl
+
+lift-behind-0 : (g : Inner → Inner) (c : Low) → withDigit 𝟎 c ≡ onInner (lift g) (withDigit 𝟎 c)
+lift-behind-0 g nought = refl
+lift-behind-0 g (inside p) = refl
+
+lift-behind-1 : (g : Inner → Inner) (c : Low) → withDigit 𝟏 (onInner g c) ≡ onInner (lift g) (withDigit 𝟏 c)
+lift-behind-1 g nought = refl
+lift-behind-1 g (inside p) = refl
+
+rule-b-value : (d e f : Digit) (r : List Digit) → value (rule-b d e f r) ≡ onInner (lift map-a) (value (d ∷ e ∷ f ∷ r))
+rule-b-value 𝟎 e f r = lift-behind-0 map-a (value (e ∷ f ∷ r))
+rule-b-value 𝟏 e f r =
+    ap value (rule-b-behind-1 e f r) ∙ ap (withDigit 𝟏) (rule-a-value e f r) ∙ lift-behind-1 map-a (value (e ∷ f ∷ r))
+
+rule-B-value : (d e f : Digit) (r : List Digit) → value (rule-B d e f r) ≡ onInner (lift map-A) (value (d ∷ e ∷ f ∷ r))
+rule-B-value 𝟎 e f r = lift-behind-0 map-A (value (e ∷ f ∷ r))
+rule-B-value 𝟏 e f r =
+    ap value (rule-B-behind-1 e f r) ∙ ap (withDigit 𝟏) (rule-A-value e f r) ∙ lift-behind-1 map-A (value (e ∷ f ∷ r))
+
+-- Reading a digit past the end, as 0, changes no value.
+value-1 : (p : List Digit) → value (firstDigit p ∷ laterDigits p) ≡ value p
+value-1 [] = refl
+value-1 (d ∷ p) = refl
+
+value-2 : (p : List Digit) → value (firstDigit p ∷ firstDigit (laterDigits p) ∷ laterDigits (laterDigits p)) ≡ value p
+value-2 p = ap (withDigit (firstDigit p)) (value-1 (laterDigits p)) ∙ value-1 p
+
+value-3 : (p q : List Digit) → q ≡ laterDigits p
+    → value (firstDigit p ∷ firstDigit q ∷ firstDigit (laterDigits q) ∷ laterDigits (laterDigits q)) ≡ value p
+value-3 p q e = ap (withDigit (firstDigit p)) (value-2 q ∙ ap value e) ∙ value-1 p
+
+move-digits-value : (x : Letter) (p : List Digit) → value (moveDigits x p) ≡ onInner (letterMap x) (value p)
+move-digits-value 'a p =
+    rule-a-value (firstDigit p) (firstDigit (laterDigits p)) (laterDigits (laterDigits p))
+    ∙ ap (onInner map-a) (value-2 p)
+move-digits-value 'A p =
+    rule-A-value (firstDigit p) (firstDigit (laterDigits p)) (laterDigits (laterDigits p))
+    ∙ ap (onInner map-A) (value-2 p)
+move-digits-value 'b p =
+    let q : List Digit = laterDigits p in
+    rule-b-value (firstDigit p) (firstDigit q) (firstDigit (laterDigits q)) (laterDigits (laterDigits q))
+    ∙ ap (onInner (lift map-a)) (value-3 p q refl)
+move-digits-value 'B p =
+    let q : List Digit = laterDigits p in
+    rule-B-value (firstDigit p) (firstDigit q) (firstDigit (laterDigits q)) (laterDigits (laterDigits q))
+    ∙ ap (onInner (lift map-A)) (value-3 p q refl)
+
+-- The digits that a word makes of digits.
+abbrev moveAll : Word → List Digit → List Digit
+moveAll [] p = p
+moveAll (x ∷ w) p = moveDigits x (moveAll w p)
+
+map-below1 : (w : Word) (p : List Digit) → mapOf w (below1 p) ≡ below1 (moveAll w p)
+map-below1 [] p = refl
+map-below1 (x ∷ w) p = ap (moveLetter x) (map-below1 w p)
+
+map-end1 : (w : Word) → mapOf w end1 ≡ end1
+map-end1 [] = refl
+map-end1 (x ∷ w) = ap (moveLetter x) (map-end1 w)
+
+move-all-value : (w : Word) (p : List Digit) → value (moveAll w p) ≡ onInner (act w) (value p)
+move-all-value [] p = sym (on-inner-id (value p))
+move-all-value (x ∷ w) p =
+    move-digits-value x (moveAll w p)
+    ∙ ap (onInner (letterMap x)) (move-all-value w p)
+    ∙ on-inner-twice (letterMap x) (act w) (value p)
+
+-- The digits of a value, at every place.
+abbrev innerDigit : Inner → ℕ → Digit
+innerDigit half zero = 𝟏
+innerDigit half (suc n) = 𝟎
+innerDigit (lower p) zero = 𝟎
+innerDigit (lower p) (suc n) = innerDigit p n
+innerDigit (upper p) zero = 𝟏
+innerDigit (upper p) (suc n) = innerDigit p n
+
+abbrev lowDigit : Low → ℕ → Digit
+lowDigit nought n = 𝟎
+lowDigit (inside p) n = innerDigit p n
+
+with-digit-first : (d : Digit) (c : Low) → lowDigit (withDigit d c) 0 ≡ d
+with-digit-first 𝟎 nought = refl
+with-digit-first 𝟎 (inside p) = refl
+with-digit-first 𝟏 nought = refl
+with-digit-first 𝟏 (inside p) = refl
+
+with-digit-later : (d : Digit) (c : Low) (n : ℕ) → lowDigit (withDigit d c) (suc n) ≡ lowDigit c n
+with-digit-later 𝟎 nought n = refl
+with-digit-later 𝟎 (inside p) n = refl
+with-digit-later 𝟏 nought n = refl
+with-digit-later 𝟏 (inside p) n = refl
+
+digit-value : (p : List Digit) (n : ℕ) → digitAt p n ≡ lowDigit (value p) n
+digit-value p zero =
+    sym (ap (λ c. lowDigit c 0) (sym (value-1 p)) ∙ with-digit-first (firstDigit p) (value (laterDigits p)))
+digit-value p (suc n) =
+    digit-value (laterDigits p) n
+    ∙ sym (with-digit-later (firstDigit p) (value (laterDigits p)) n)
+    ∙ ap (λ c. lowDigit c (suc n)) (value-1 p)
+
+-- Values with the same digits are the same.
+digits-differ : 𝟎 ≡ 𝟏 → ⊥
+digits-differ e =
+    let w : _≡_ {A = ℕ} 0 1 = cc in
+    omega arith
+
+not-nought : (p : Inner) → ((n : ℕ) → 𝟎 ≡ innerDigit p n) → ⊥
+not-nought half h = digits-differ (h 0)
+not-nought (lower p) h = not-nought p (λ n. h (suc n))
+not-nought (upper p) h = digits-differ (h 0)
+
+inner-equal : (p q : Inner) → ((n : ℕ) → innerDigit p n ≡ innerDigit q n) → p ≡ q
+inner-equal half half h = refl
+inner-equal half (lower q) h = absurd (digits-differ (sym (h 0)))
+inner-equal half (upper q) h = absurd (not-nought q (λ n. h (suc n)))
+inner-equal (lower p) half h = absurd (digits-differ (h 0))
+inner-equal (lower p) (lower q) h = ap lower (inner-equal p q (λ n. h (suc n)))
+inner-equal (lower p) (upper q) h = absurd (digits-differ (h 0))
+inner-equal (upper p) half h = absurd (not-nought p (λ n. sym (h (suc n))))
+inner-equal (upper p) (lower q) h = absurd (digits-differ (sym (h 0)))
+inner-equal (upper p) (upper q) h = ap upper (inner-equal p q (λ n. h (suc n)))
+
+-- Every inner point has digits.
+abbrev digits : Inner → List Digit
+digits half = 𝟏 ∷ []
+digits (lower p) = 𝟎 ∷ digits p
+digits (upper p) = 𝟏 ∷ digits p
+
+value-digits : (p : Inner) → value (digits p) ≡ inside p
+value-digits half = refl
+value-digits (lower p) = ap (withDigit 𝟎) (value-digits p)
+value-digits (upper p) = ap (withDigit 𝟏) (value-digits p)
+
+low-equal : (c d : Low) → ((n : ℕ) → lowDigit c n ≡ lowDigit d n) → c ≡ d
+low-equal nought nought h = refl
+low-equal nought (inside q) h = absurd (not-nought q h)
+low-equal (inside p) nought h = absurd (not-nought p (λ n. sym (h n)))
+low-equal (inside p) (inside q) h = ap inside (inner-equal p q h)
+
+-- Digits of one point have one value, and digits of one value are one point.
+same→value : (p q : List Digit) → SamePoint (below1 p) (below1 q) → value p ≡ value q
+same→value p q h = low-equal (value p) (value q) (λ n. sym (digit-value p n) ∙ h n ∙ digit-value q n)
+
+value→same : (p q : List Digit) → value p ≡ value q → SamePoint (below1 p) (below1 q)
+value→same p q e n = digit-value p n ∙ ap (λ c. lowDigit c n) e ∙ sym (digit-value q n)
+
+-- The ends are fixed, and the zeros behind the last digit make no difference.
+pub map-1 : (w : Word) → SamePoint (mapOf w end1) end1
+map-1 w = subst (λ (x : Point). SamePoint x end1) (sym (map-end1 w)) tt
+
+pub map-0 : (w : Word) → SamePoint (mapOf w (below1 [])) (below1 [])
+map-0 w =
+    subst (λ (x : Point). SamePoint x (below1 [])) (sym (map-below1 w []))
+    (value→same (moveAll w []) [] (move-all-value w []))
+
+pub map-same : (w : Word) (x y : Point) → SamePoint x y → SamePoint (mapOf w x) (mapOf w y)
+map-same w end1 end1 h = subst₂ SamePoint (sym (map-end1 w)) (sym (map-end1 w)) tt
+map-same w end1 (below1 q) h = absurd h
+map-same w (below1 p) end1 h = absurd h
+map-same w (below1 p) (below1 q) h =
+    subst₂ SamePoint (sym (map-below1 w p)) (sym (map-below1 w q))
+    (value→same (moveAll w p) (moveAll w q)
+    (move-all-value w p ∙ ap (onInner (act w)) (same→value p q h) ∙ sym (move-all-value w q)))
+
+pub act→map : (u v : Word) → ((p : Inner) → act u p ≡ act v p) → SameMap u v
+act→map u v h end1 = subst₂ SamePoint (sym (map-end1 u)) (sym (map-end1 v)) tt
+act→map u v h (below1 p) =
+    subst₂ SamePoint (sym (map-below1 u p)) (sym (map-below1 v p))
+    (value→same (moveAll u p) (moveAll v p)
+    (move-all-value u p ∙ on-inner-cong (act u) (act v) h (value p) ∙ sym (move-all-value v p)))
+
+inside-injective : (p q : Inner) → inside p ≡ inside q → p ≡ q
+inside-injective p q e = cc
+
+-- What a word makes of an inner point, by its digits.
+act-value : (w : Word) (p : Inner) → value (moveAll w (digits p)) ≡ inside (act w p)
+act-value w p = move-all-value w (digits p) ∙ ap (onInner (act w)) (value-digits p)
+
+pub map→act : (u v : Word) → SameMap u v → (p : Inner) → act u p ≡ act v p
+map→act u v h p =
+    inside-injective (act u p) (act v p)
+    (sym (act-value u p) ∙ same→value (moveAll u (digits p)) (moveAll v (digits p)) same ∙ act-value v p)
+  where
+    same : SamePoint (below1 (moveAll u (digits p))) (below1 (moveAll v (digits p)))
+    same = subst₂ SamePoint (map-below1 u (digits p)) (map-below1 v (digits p)) (h (below1 (digits p)))
+
+pub maps↔acts : (u v : Word) → SameMap u v ↔ ((p : Inner) → act u p ≡ act v p)
+maps↔acts u v = (map→act u v, act→map u v)

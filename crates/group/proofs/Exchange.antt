@@ -1,0 +1,112 @@
+-- The form of an inverse is the form with its sides exchanged, and a letter put behind a form is its inverse put in front,
+-- between two exchanges. The letters of an exchanged form are the inverse of the form's letters, letter for letter.
+-- Assumes nothing.
+use mathlib.Core.Path.{_≡_, refl, sym, _∙_, ap, ap₂}
+use mathlib.Core.List.{List, [], _∷_, _++_}
+use mathlib.Core.Logic.{_⊎_, inl, inr}
+use Prim.Native.Nat.{ℕ, zero, suc, _+_, _<_}
+use native.Mathlib.Omega.{arith}
+use Rattle.lists.specs.Copies.{copies}
+use Rattle.lists.proofs.Copies.{copies-past}
+use Rattle.group.specs.Letters.{Letter, Word, inverseLetter, inverse}
+use Rattle.group.specs.Chains.{Joined}
+use Rattle.group.specs.Forms.{Side, bSide, aSide, Form, empty, level, generator, exponent, Trimmed, ascending, descending, letters}
+use Rattle.group.specs.Reducing.{Reduced}
+use Rattle.group.specs.Products.{timesLetter, formOf, exchange, behindLetter}
+use Rattle.group.proofs.Congruence.{_≈_, ≈-sym, _⟫_, ≈-path, ≈-front, ≈-back, ≈→joined}
+use Rattle.group.proofs.Inverses.{inverse-letter-twice, inverse-append, inverse-twice, inverse-cong, eight-pairs}
+use Rattle.group.proofs.Products.{times-letter-sound, form-sound}
+use Rattle.group.proofs.Reduced.{Canonical, letter-canonical, form-canonical}
+use Rattle.group.proofs.Forms.{the-form-joined}
+
+-- Exponents change sides.
+pub exchange-b : (f : Form) (i : ℕ) → exponent bSide (exchange f) i ≡ exponent aSide f i
+exchange-b empty i = refl
+exchange-b (level b a f) zero = refl
+exchange-b (level b a f) (suc i) = exchange-b f i
+
+pub exchange-a : (f : Form) (i : ℕ) → exponent aSide (exchange f) i ≡ exponent bSide f i
+exchange-a empty i = refl
+exchange-a (level b a f) zero = refl
+exchange-a (level b a f) (suc i) = exchange-a f i
+
+pub exchange-twice : (f : Form) → exchange (exchange f) ≡ f
+exchange-twice empty = refl
+exchange-twice (level b a f) = ap (level b a) (exchange-twice f)
+
+exchange-reduced : (f : Form) → Reduced f → Reduced (exchange f)
+exchange-reduced f r i x y = go (r i (omega (arith, exchange-b f i)) (omega (arith, exchange-a f i)))
+  where
+    go : (0 < exponent aSide f (suc i)) ⊎ (0 < exponent bSide f (suc i))
+        → (0 < exponent aSide (exchange f) (suc i)) ⊎ (0 < exponent bSide (exchange f) (suc i))
+    go (inl h) = inr (omega (arith, exchange-b f (suc i)))
+    go (inr h) = inl (omega (arith, exchange-a f (suc i)))
+
+exchange-trimmed : (f : Form) → Trimmed f → Trimmed (exchange f)
+exchange-trimmed empty t = tt
+exchange-trimmed (level b a empty) t = omega arith
+exchange-trimmed (level b a (level c d f)) t = exchange-trimmed (level c d f) t
+
+pub exchange-canonical : (f : Form) → Canonical f → Canonical (exchange f)
+exchange-canonical f c =
+    record { reduced = exchange-reduced f (c .reduced); trimmed = exchange-trimmed f (c .trimmed) }
+
+-- The inverse of a power.
+inverse-copies : (n : ℕ) (w : Word) → inverse (copies n w) ≡ copies n (inverse w)
+inverse-copies zero w = refl
+inverse-copies (suc n) w =
+    inverse-append w (copies n w)
+    ∙ ap (λ (u : Word). u ++ inverse w) (inverse-copies n w)
+    ∙ copies-past n (inverse w)
+
+ascending-exchange : (k : ℕ) (f : Form) → ascending k (exchange f) ≡ inverse (descending k f)
+ascending-exchange k empty = refl
+ascending-exchange k (level b a f) =
+    ap₂ (λ (u v : Word). u ++ v)
+    (ap (copies a) (sym (inverse-twice (generator k))) ∙ sym (inverse-copies a (inverse (generator k))))
+    (ascending-exchange (suc k) f)
+    ∙ sym (inverse-append (descending (suc k) f) (copies a (inverse (generator k))))
+
+descending-exchange : (k : ℕ) (f : Form) → descending k (exchange f) ≡ inverse (ascending k f)
+descending-exchange k empty = refl
+descending-exchange k (level b a f) =
+    ap₂ (λ (u v : Word). u ++ v) (descending-exchange (suc k) f) (sym (inverse-copies b (generator k)))
+    ∙ sym (inverse-append (copies b (generator k)) (ascending (suc k) f))
+
+pub letters-exchange : (f : Form) → letters (exchange f) ≡ inverse (letters f)
+letters-exchange f =
+    ap₂ (λ (u v : Word). u ++ v) (ascending-exchange 0 f) (descending-exchange 0 f)
+    ∙ sym (inverse-append (ascending 0 f) (descending 0 f))
+
+-- The form of the inverse.
+pub form-inverse : (w : Word) → formOf (inverse w) ≡ exchange (formOf w)
+form-inverse w =
+    let c : Canonical (exchange (formOf w)) = exchange-canonical (formOf w) (form-canonical w) in
+    sym
+    (the-form-joined (inverse w) (exchange (formOf w)) (c .reduced) (c .trimmed)
+    (≈→joined (≈-path (letters-exchange (formOf w)) ⟫ inverse-cong eight-pairs (form-sound w))))
+
+-- A letter put behind a form stands behind its letters.
+behind-sound : (f : Form) (x : Letter) → letters (behindLetter f x) ≈ (letters f ++ (x ∷ []))
+behind-sound f x =
+    ≈-path (letters-exchange (timesLetter (inverseLetter x) (exchange f)))
+    ⟫ inverse-cong eight-pairs (times-letter-sound (inverseLetter x) (exchange f))
+    ⟫ ≈-path
+    (ap₂ (λ (u : Word) (y : Letter). u ++ (y ∷ []))
+    (ap inverse (letters-exchange f) ∙ inverse-twice (letters f))
+    (inverse-letter-twice x))
+
+pub behind-joined : (f : Form) (x : Letter) → Joined (letters (behindLetter f x)) (letters f ++ (x ∷ []))
+behind-joined f x = ≈→joined (behind-sound f x)
+
+pub behind-canonical : (f : Form) (x : Letter) → Canonical f → Canonical (behindLetter f x)
+behind-canonical f x c =
+    exchange-canonical (timesLetter (inverseLetter x) (exchange f))
+    (letter-canonical (inverseLetter x) (exchange f) (exchange-canonical f c))
+
+pub form-behind : (w : Word) (x : Letter) → formOf (w ++ (x ∷ [])) ≡ behindLetter (formOf w) x
+form-behind w x =
+    let c : Canonical (behindLetter (formOf w) x) = behind-canonical (formOf w) x (form-canonical w) in
+    sym
+    (the-form-joined (w ++ (x ∷ [])) (behindLetter (formOf w) x) (c .reduced) (c .trimmed)
+    (≈→joined (behind-sound (formOf w) x ⟫ ≈-back (form-sound w) (x ∷ []))))

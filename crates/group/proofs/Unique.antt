@@ -1,0 +1,195 @@
+-- Reduced forms with one map have the same exponents (000, section 2.4.2). The points 0…01 tell b_0 − a_0, so the larger
+-- first level exceeds the other by d on both sides. Cancel the smaller powers: if d is above 0, the map of the levels
+-- above the larger one fixes every point that begins with 0, and a reduced form with such a map has (0, 0) for its first
+-- level, which breaks the clause one level below. Assumes nothing.
+use mathlib.Core.Path.{_≡_, refl, sym, _∙_, ap, subst}
+use mathlib.Core.Logic.{_⊎_, inl, inr}
+use Prim.Native.Nat.{ℕ, zero, suc, _+_, _-_, _<_, _≤_}
+use native.Mathlib.Omega.{arith}
+use native.Mathlib.Decide.{decLe}
+use Rattle.group.specs.Forms.{Side, bSide, aSide, Form, empty, level, onSide, exponent, SameExponents}
+use Rattle.group.specs.Reducing.{Reduced}
+use Rattle.group.proofs.Exponents.{same-level}
+use Rattle.group.proofs.Inner.{Inner, half, lower, upper, map-a, map-A, lift, A-undoes-a}
+use Rattle.group.proofs.Actions.{iter, formMap}
+
+-- The points 0^m 1.
+abbrev zeros1 : ℕ → Inner
+zeros1 zero = half
+zeros1 (suc m) = lower (zeros1 m)
+
+zeros1-injective : (m n : ℕ) → zeros1 m ≡ zeros1 n → m ≡ n
+zeros1-injective zero zero e = refl
+zeros1-injective zero (suc n) e = cc
+zeros1-injective (suc m) zero e = cc
+zeros1-injective (suc m) (suc n) e = ap suc (zeros1-injective m n (cc))
+
+A-zeros1 : (k : ℕ) → map-A (zeros1 (suc k)) ≡ zeros1 k
+A-zeros1 zero = refl
+A-zeros1 (suc k) = refl
+
+a-zeros1 : (k : ℕ) → map-a (zeros1 k) ≡ zeros1 (suc k)
+a-zeros1 zero = refl
+a-zeros1 (suc k) = refl
+
+lift-zeros1 : (g : Inner → Inner) (k : ℕ) → lift g (zeros1 k) ≡ zeros1 k
+lift-zeros1 g zero = refl
+lift-zeros1 g (suc k) = refl
+
+iter-A-zeros1 : (m n k : ℕ) → n ≡ m + k → iter map-A m (zeros1 n) ≡ zeros1 k
+iter-A-zeros1 zero n k e =
+    let d : n ≡ k = omega arith in
+    ap zeros1 d
+iter-A-zeros1 (suc m) n k e = ap map-A (iter-A-zeros1 m n (suc k) (omega arith)) ∙ A-zeros1 k
+
+iter-a-zeros1 : (n k j : ℕ) → j ≡ n + k → iter map-a n (zeros1 k) ≡ zeros1 j
+iter-a-zeros1 zero k j e =
+    let d : k ≡ j = omega arith in
+    ap zeros1 d
+iter-a-zeros1 (suc n) k j e =
+    let d : suc (n + k) ≡ j = omega arith in
+    ap map-a (iter-a-zeros1 n k (n + k) refl) ∙ a-zeros1 (n + k) ∙ ap zeros1 d
+
+-- A level takes 0^(a+k) 1 to 0^(b+k) 1.
+form-zeros1 : (b a : ℕ) (f : Form) (k x y : ℕ) → x ≡ a + k → y ≡ b + k → formMap (level b a f) (zeros1 x) ≡ zeros1 y
+form-zeros1 b a f k x y e d =
+    ap (λ q. iter map-a b (lift (formMap f) q)) (iter-A-zeros1 a x k e)
+    ∙ ap (iter map-a b) (lift-zeros1 (formMap f) k)
+    ∙ iter-a-zeros1 b k y d
+
+-- So the map gives b − a, its slope at 0.
+slope : (b a c d : ℕ) (f g : Form) → ((p : Inner) → formMap (level b a f) p ≡ formMap (level c d g) p) → b + d ≡ c + a
+slope b a c d f g h =
+    zeros1-injective (b + d) (c + a)
+    (sym (form-zeros1 b a f d (a + d) (b + d) refl refl)
+    ∙ h (zeros1 (a + d))
+    ∙ form-zeros1 c d g a (a + d) (c + a) (omega arith) refl)
+
+-- Powers of a map.
+iter-out : (g : Inner → Inner) (n : ℕ) (p : Inner) → iter g n (g p) ≡ g (iter g n p)
+iter-out g zero p = refl
+iter-out g (suc n) p = ap g (iter-out g n p)
+
+iter-add : (g : Inner → Inner) (n d k : ℕ) (p : Inner) → k ≡ n + d → iter g k p ≡ iter g n (iter g d p)
+iter-add g zero d k p e =
+    let c : k ≡ d = omega arith in
+    ap (λ j. iter g j p) c
+iter-add g (suc n) d k p e =
+    let c : k ≡ suc (n + d) = omega arith in
+    ap (λ j. iter g j p) c ∙ ap g (iter-add g n d (n + d) p refl)
+
+iter-undo : (n : ℕ) (p : Inner) → iter map-A n (iter map-a n p) ≡ p
+iter-undo zero p = refl
+iter-undo (suc n) p =
+    sym (iter-out map-A n (map-a (iter map-a n p)))
+    ∙ ap (iter map-A n) (A-undoes-a (iter map-a n p))
+    ∙ iter-undo n p
+
+iter-injective : (n : ℕ) (p q : Inner) → iter map-a n p ≡ iter map-a n q → p ≡ q
+iter-injective n p q e = sym (iter-undo n p) ∙ ap (iter map-A n) e ∙ iter-undo n q
+
+upper-injective : (p q : Inner) → upper p ≡ upper q → p ≡ q
+upper-injective p q e = cc
+
+-- a, e + 1 times, takes 10t to a point that begins with 0.
+into-lower : (e : ℕ) (t : Inner) → (x : Inner) × (iter map-a (suc e) (upper (lower t)) ≡ lower x)
+into-lower zero t = (upper t, refl)
+into-lower (suc e) t = let r = into-lower e t in (lower (r .0), ap map-a (r .1))
+
+-- If x0^(e+1), g behind a 1, x0^−(e+1) fixes every 0t, then so does g.
+inner-fixes : (e : ℕ) (g : Inner → Inner)
+    → ((t : Inner) → iter map-a (suc e) (lift g (iter map-A (suc e) (lower t))) ≡ lower t)
+    → (t : Inner) → g (lower t) ≡ lower t
+inner-fixes e g h t =
+    let r = into-lower e t in
+    let back : iter map-A (suc e) (lower (r .0)) ≡ upper (lower t) =
+    ap (iter map-A (suc e)) (sym (r .1)) ∙ iter-undo (suc e) (upper (lower t)) in
+    upper-injective (g (lower t)) (lower t)
+    (iter-injective (suc e) (lift g (upper (lower t))) (upper (lower t))
+    (ap (λ q. iter map-a (suc e) (lift g q)) (sym back) ∙ h (r .0) ∙ sym (r .1)))
+
+-- The clause at a level with both exponents above 0 does not bear (0, 0) above it.
+clause-broken : (g : Form) → (0 < exponent aSide g 0) ⊎ (0 < exponent bSide g 0) → ((s : Side) → exponent s g 0 ≡ 0) → ⊥
+clause-broken g (inl k) z = omega (arith, z aSide)
+clause-broken g (inr k) z = omega (arith, z bSide)
+
+-- A reduced form that fixes every 0t has (0, 0) for its first level.
+fixes-lower : (f : Form) → Reduced f → ((t : Inner) → formMap f (lower t) ≡ lower t) → (s : Side) → exponent s f 0 ≡ 0
+fixes-lower empty r h s = refl
+fixes-lower (level b a g) r h s = go b a (r 0) h same (fixes-lower g (λ i. r (suc i))) s
+  where
+    same : a ≡ b
+    same =
+        let e : suc a ≡ suc b =
+        zeros1-injective (suc a) (suc b)
+        (sym (h (zeros1 a)) ∙ form-zeros1 b a g 1 (suc a) (suc b) (omega arith) (omega arith)) in
+        omega arith
+
+    go : (x y : ℕ) → (0 < y → 0 < x → (0 < exponent aSide g 0) ⊎ (0 < exponent bSide g 0))
+        → ((t : Inner) → formMap (level x y g) (lower t) ≡ lower t) → y ≡ x
+        → (((t : Inner) → formMap g (lower t) ≡ lower t) → (u : Side) → exponent u g 0 ≡ 0)
+        → (u : Side) → onSide u x y ≡ 0
+    go zero y c k e ih bSide = refl
+    go zero y c k e ih aSide = e
+    go (suc x) zero c k e ih u = absurd (omega arith)
+    go (suc x) (suc y) c k e ih u =
+        let d : y ≡ x = omega arith in
+        absurd
+        (clause-broken g (c (omega arith) (omega arith))
+        (ih
+        (inner-fixes x (formMap g)
+        (subst (λ (v : ℕ). (t : Inner) → formMap (level (suc x) (suc v) g) (lower t) ≡ lower t) d k))))
+
+-- A reduced form that fixes every point has no exponent above 0.
+fixes-all : (f : Form) → Reduced f → ((p : Inner) → formMap f p ≡ p) → SameExponents f empty
+fixes-all empty r h = λ s i. refl
+fixes-all (level b a f) r h = go b a (fixes-lower (level b a f) r (λ t. h (lower t))) h (fixes-all f (λ i. r (suc i)))
+  where
+    go : (x y : ℕ) → ((s : Side) → onSide s x y ≡ 0) → ((p : Inner) → formMap (level x y f) p ≡ p)
+        → (((p : Inner) → formMap f p ≡ p) → SameExponents f empty) → SameExponents (level x y f) empty
+    go zero zero z k ih bSide zero = refl
+    go zero zero z k ih aSide zero = refl
+    go zero zero z k ih s (suc i) = ih (λ p. upper-injective (formMap f p) p (k (upper p))) s i
+    go zero (suc y) z k ih s i = absurd (omega (arith, z aSide))
+    go (suc x) y z k ih s i = absurd (omega (arith, z bSide))
+
+-- With the smaller powers at both ends cancelled.
+cancelled : (b a d c e : ℕ) (f g : Form) → c ≡ b + d → e ≡ a + d
+    → ((p : Inner) → formMap (level b a f) p ≡ formMap (level c e g) p)
+    → (q : Inner) → lift (formMap f) q ≡ iter map-a d (lift (formMap g) (iter map-A d q))
+cancelled b a d c e f g x y h q =
+    iter-injective b (lift (formMap f) q) (iter map-a d (lift (formMap g) (iter map-A d q)))
+    (ap (λ p. iter map-a b (lift (formMap f) p)) (sym (iter-undo a q))
+    ∙ h (iter map-a a q)
+    ∙ ap (λ p. iter map-a c (lift (formMap g) p))
+    (iter-add map-A d a e (iter map-a a q) (omega arith) ∙ ap (iter map-A d) (iter-undo a q))
+    ∙ iter-add map-a b d c (lift (formMap g) (iter map-A d q)) x)
+
+-- Two forms whose first levels differ by d on both sides: d is 0, and the levels above agree.
+first-levels : (b a d c e : ℕ) (f g : Form) → c ≡ b + d → e ≡ a + d → Reduced (level c e g)
+    → ((p : Inner) → formMap (level b a f) p ≡ formMap (level c e g) p)
+    → (((p : Inner) → formMap f p ≡ formMap g p) → SameExponents f g)
+    → SameExponents (level b a f) (level c e g)
+first-levels b a zero c e f g x y r h ih =
+    same-level f g (omega arith) (omega arith)
+    (ih (λ p. upper-injective (formMap f p) (formMap g p) (cancelled b a 0 c e f g x y h (upper p))))
+first-levels b a (suc d) c e f g x y r h ih =
+    absurd
+    (clause-broken g (r 0 (omega arith) (omega arith))
+    (fixes-lower g (λ i. r (suc i))
+    (inner-fixes d (formMap g) (λ t. sym (cancelled b a (suc d) c e f g x y h (lower t))))))
+
+pub unique-levels : (f g : Form) → Reduced f → Reduced g → ((p : Inner) → formMap f p ≡ formMap g p) → SameExponents f g
+unique-levels empty g r q h = λ s i. sym (fixes-all g q (λ p. sym (h p)) s i)
+unique-levels (level b a f) empty r q h = fixes-all (level b a f) r h
+unique-levels (level b a f) (level c d g) r q h =
+    go (slope b a c d f g h) (decLe b c) (unique-levels f g (λ i. r (suc i)) (λ i. q (suc i)))
+  where
+    go : b + d ≡ c + a → Dec (b ≤ c) → (((p : Inner) → formMap f p ≡ formMap g p) → SameExponents f g)
+        → SameExponents (level b a f) (level c d g)
+    go e (yes l) ih = first-levels b a (c - b) c d f g (omega arith) (omega arith) q h ih
+    go e (no l) ih =
+        λ s i.
+        sym
+        (first-levels c d (b - c) b a g f (omega arith) (omega arith) r (λ p. sym (h p))
+        (λ k t j. sym (ih (λ p. sym (k p)) t j)) s i)
