@@ -1,16 +1,19 @@
 -- The claims of specs/Sentences.antt, proved. Assumes nothing.
-use mathlib.Core.List.{[], _∷_}
 use Rattle.group.proofs.Digits.{map-0, map-1, map-same}
 use Rattle.group.proofs.Generators.{conjugate-generator}
-use Rattle.group.proofs.Forms.{inverse-undoes}
-use Rattle.group.proofs.Reducing.{step-joined, step-map, stepAt, step-exists, no-step↔reduced, steps-bounded, steps-reach, steps-end}
+use Rattle.group.proofs.Presentations.{presentations-agree as agree}
+use Rattle.group.proofs.Forms.{letter-undone}
+use Rattle.group.proofs.Reducing.{step-joined, step-map}
+use Rattle.group.proofs.ReducingEnds.{stepAt, step-exists, no-step↔reduced, steps-bounded, steps-reach}
+use Rattle.group.proofs.ReducingEnds.{steps-end as same-end}
 use Rattle.group.proofs.Exchange.{form-inverse, form-behind}
 use Rattle.claims.specs.Sentences.{InverseUndoes, EndsFixed, ZerosIgnored, GeneratorsConjugate}
+use Rattle.claims.specs.Sentences.{PresentationsAgree}
 use Rattle.claims.specs.Sentences.{StepKeepsElement, StepCanBeTaken, ReducedIsNoStep, StepsEnd}
 use Rattle.claims.specs.Sentences.{InverseExchanges, BehindIsInFront}
 
-pub inverse-undoes-letter : InverseUndoes
-inverse-undoes-letter = inverse-undoes
+pub inverse-undoes : InverseUndoes
+inverse-undoes = letter-undone
 
 pub ends-fixed : EndsFixed
 ends-fixed = record { at-0 = map-0; at-1 = map-1 }
@@ -21,6 +24,9 @@ zeros-ignored = map-same
 pub generators-conjugate : GeneratorsConjugate
 generators-conjugate = conjugate-generator
 
+pub presentations-agree : PresentationsAgree
+presentations-agree = agree
+
 pub step-keeps-element : StepKeepsElement
 step-keeps-element i f g t = (step-joined i f g t, step-map i f g t)
 
@@ -30,12 +36,12 @@ step-can-be-taken i f t = (stepAt i f, step-exists i f t)
 pub reduced-is-no-step : ReducedIsNoStep
 reduced-is-no-step f = (no-step↔reduced f .1, no-step↔reduced f .0)
 
-pub steps-all-end : StepsEnd
-steps-all-end =
+pub steps-end : StepsEnd
+steps-end =
     record {
       bounded = λ n f g u. steps-bounded u;
       reaches = steps-reach;
-      same-end = λ n f g u r. steps-end u r;
+      same-end = λ n f g u r. same-end u r;
     }
 
 pub inverse-exchanges : InverseExchanges

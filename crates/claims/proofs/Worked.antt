@@ -1,19 +1,18 @@
 -- The rows of specs/Worked.antt, by computation. That the unreduced form has the map of b is one free reduction.
 -- Assumes nothing.
 use mathlib.Core.Path.{_≡_, refl}
-use mathlib.Core.Logic.{inl, inr}
-use Prim.Native.Nat.{ℕ, zero, suc, _<_}
+use Prim.Native.Nat.{_<_}
 use native.Mathlib.Omega.{arith}
 use Rattle.group.specs.Forms.{Side, bSide, aSide, exponent, letters}
-use Rattle.group.specs.Reducing.{Reduced, Applies}
+use Rattle.group.specs.Reducing.{Applies}
 use Rattle.group.specs.Texts.{word}
 use Rattle.group.proofs.Congruence.{≈→joined}
 use Rattle.group.proofs.Inverses.{eight-pairs}
 use Rattle.group.proofs.FreeReduction.{free}
 use Rattle.group.proofs.Reduced.{form-reduced}
 use Rattle.group.proofs.Forms.{joined-map}
-use Rattle.group.proofs.Reducing.{reduced-no-step}
-use Rattle.claims.specs.Worked.{x2, x3, unreduced, deadEnd, Worked}
+use Rattle.group.proofs.ReducingEnds.{reduced-no-step}
+use Rattle.claims.specs.Worked.{unreduced, Worked}
 
 applies-0 : Applies 0 unreduced
 applies-0 = record { here = occurs; next = absent }

@@ -1,14 +1,16 @@
--- What 01 says of letters, chains and reduced forms beside the demands, a claim for each sentence ('Letters and maps',
--- 'The reduced form'; 000, sections 2.1 and 2.4.2). The proofs stand in proofs/Sentences.antt. Assumes nothing.
+-- What 01 says of letters, maps and reduced forms beside the demands, a claim for each sentence ('Letters and maps',
+-- 'The reduced form'; 000, sections 2.1 and 2.4.2). Each claim is a type; proofs/Sentences.antt proves it, under the
+-- same name in small letters. Assumes nothing.
 use mathlib.Core.Path.{_≡_}
 use mathlib.Core.List.{[], _∷_, _++_}
 use mathlib.Core.Logic.{_↔_}
 use Prim.Native.Nat.{ℕ, suc, _+_, _<_, _≤_}
 use Rattle.group.specs.Letters.{Letter, Word, inverseLetter, inverse}
-use Rattle.group.specs.Chains.{Joined}
+use Rattle.group.specs.Chains.{JoinedBy, Joined}
 use Rattle.group.specs.Points.{Point, below1, end1, SamePoint}
 use Rattle.group.specs.Maps.{mapOf, SameMap}
 use Rattle.group.specs.Forms.{Form, generator, SameExponents, exponentSum, letters}
+use Rattle.group.specs.Presentations.{Infinite}
 use Rattle.group.specs.Reducing.{Reduced, Applies, ReducingStep, Steps}
 use Rattle.group.specs.Products.{timesLetter, formOf, exchange}
 
@@ -29,6 +31,10 @@ ZerosIgnored = (w : Word) (p q : Point) → SamePoint p q → SamePoint (mapOf w
 abbrev pub GeneratorsConjugate : Type 0
 GeneratorsConjugate =
     (i j : ℕ) → i < j → Joined (inverse (generator i) ++ (generator j ++ generator i)) (generator (suc j))
+
+-- The finite and the infinite presentation join the same words.
+abbrev pub PresentationsAgree : Type 0
+PresentationsAgree = (u v : Word) → JoinedBy Infinite u v ↔ Joined u v
 
 -- A reducing step changes neither the element nor its map.
 abbrev pub StepKeepsElement : Type 0

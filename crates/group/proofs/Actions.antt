@@ -1,15 +1,17 @@
 -- Joined words have the same map, and the map of a form level by level. Assumes nothing.
 use mathlib.Core.Path.{_≡_, refl, sym, _∙_, ap}
-use mathlib.Core.List.{List, [], _∷_, _++_}
+use mathlib.Core.List.{[], _∷_, _++_}
 use Prim.Native.Nat.{ℕ, zero, suc}
 use lib.ListN.{replicate}
 use Rattle.group.specs.Letters.{Letter, 'a, 'A, 'b, 'B, Word, inverse}
-use Rattle.group.specs.Chains.{relator1, relator2, Eight, pair-aA, pair-Aa, pair-bB, pair-Bb, first, second, first-inverse, second-inverse}
+use Rattle.group.specs.Chains.{relator1, relator2, Eight, pair-aA, pair-Aa, pair-bB, pair-Bb, first, second}
+use Rattle.group.specs.Chains.{first-inverse, second-inverse}
 use Rattle.group.specs.Forms.{Form, empty, level, letters}
 use Rattle.group.proofs.Congruence.{_≈_, ≈-refl, ≈-sym, ≈-trans, ≈-cons, ≈-drop}
 use Rattle.group.proofs.Shift.{σ}
 use Rattle.group.proofs.Levels.{spellLevels, letters-levels}
-use Rattle.group.proofs.Inner.{Inner, half, lower, upper, map-a, map-A, lift, letterMap, act, lift-id, lift-lift, lift-cong, lift-conjugate, letter-undo, act-append, act-undo}
+use Rattle.group.proofs.Inner.{Inner, half, lower, upper, map-a, map-A, lift, letterMap, act, lift-id, lift-lift}
+use Rattle.group.proofs.Inner.{lift-cong, lift-conjugate, letter-undo, act-append, act-undo}
 
 -- The relators move no point, by their leading digits.
 act-relator1 : (p : Inner) → act relator1 p ≡ p

@@ -1,7 +1,7 @@
 -- A word of n letters has a form whose exponents sum to at most n, and no index above n (01, 'The reduced form').
 -- Assumes nothing.
 use mathlib.Core.Path.{_≡_, refl}
-use mathlib.Core.List.{List, [], _∷_}
+use mathlib.Core.List.{[], _∷_}
 use Prim.Native.Nat.{ℕ, zero, suc, _+_, _<_, _≤_}
 use native.Mathlib.Omega.{arith}
 use lib.ListN.{length}
@@ -74,7 +74,8 @@ times-adds s (suc k) (level b a f) (suc n) g h =
           height = omega (arith, reduce-level-levels b a (timesGenerator s (k + b) f));
         }
 
-letter-adds : (x : Letter) (f : Form) (n : ℕ) → levels f ≤ suc n → exponentSum f ≤ n → Adds (suc (suc n)) f (timesLetter x f)
+letter-adds : (x : Letter) (f : Form) (n : ℕ) → levels f ≤ suc n → exponentSum f ≤ n
+    → Adds (suc (suc n)) f (timesLetter x f)
 letter-adds 'a f n g h = times-adds bSide 0 f (suc (suc n)) (omega arith) (omega arith)
 letter-adds 'A f n g h = times-adds aSide 0 f (suc (suc n)) (omega arith) (omega arith)
 letter-adds 'b f n g h = times-adds bSide 1 f (suc (suc n)) (omega arith) (omega arith)

@@ -1,14 +1,15 @@
--- The congruence on words that a set of strings generates; for the eight strings of 01 it is joining by a chain.
---     Congruent R u v   strings of R, put in and taken out, lead from u to v      u ≈ v   the same for the eight strings
--- Chain steps keep whole words in hand; the congruence is closed under a letter in front, which is what inductions need.
+-- The congruence on words that a set of strings generates; for the eight strings of 01 it is joining by a chain. A
+-- chain speaks of whole words; the congruence is closed under a letter in front, which inductions on words need.
+--     Congruent R u v   strings of R, put in and taken out, lead from u to v
+--     u ≈ v             the same for the eight strings
 -- Assumes nothing.
 use mathlib.Core.Path.{_≡_, refl, sym, ap, subst}
 use mathlib.Core.List.{List, [], _∷_, _++_, append-assoc}
-use mathlib.Core.Logic.{_⊎_, inl, inr, _↔_}
+use mathlib.Core.Logic.{inl, inr, _↔_}
 use Rattle.group.specs.Letters.{Letter, Word}
-use Rattle.group.specs.Chains.{Eight, Puts, Step, Chain, lastOf, Joined}
+use Rattle.group.specs.Chains.{Strings, Eight, Puts, Step, Chain, lastOf, JoinedBy, Joined}
 
-pub data Congruent (R : Word → Type 0) : Word → Word → Type 0 where
+pub data Congruent (R : Strings) : Word → Word → Type 0 where
   ≈-refl : {u : Word} → Congruent R u u
   ≈-sym : {u v : Word} → Congruent R u v → Congruent R v u
   ≈-trans : {u v w : Word} → Congruent R u v → Congruent R v w → Congruent R u w
@@ -19,7 +20,7 @@ infix 50 _≈_
 abbrev pub _≈_ : Word → Word → Type 0
 u ≈ v = Congruent Eight u v
 
-module _ {R : Word → Type 0} where
+module _ {R : Strings} where
   -- Transitivity, to write a derivation from top to bottom.
   infixr 40 _⟫_
   pub _⟫_ : {u v w : Word} → Congruent R u v → Congruent R v w → Congruent R u w
@@ -43,77 +44,82 @@ module _ {R : Word → Type 0} where
   ≈-append {v = v} {s = s} h k = ≈-trans (≈-back h s) (≈-front v k)
 
 -- Joining is an equivalence, kept by a letter in front.
-joined-refl : (u : Word) → Joined u u
-joined-refl u = record { rest = []; chain = tt; last = refl }
+module _ {R : Strings} where
+  joined-refl : (u : Word) → JoinedBy R u u
+  joined-refl u = record { rest = []; chain = tt; last = refl }
 
-joined-step : {u v w : Word} → Step u v → Joined v w → Joined u w
-joined-step {v} s j = record { rest = v ∷ j .rest; chain = (s, j .chain); last = j .last }
+  joined-step : {u v w : Word} → Step R u v → JoinedBy R v w → JoinedBy R u w
+  joined-step {v} s j = record { rest = v ∷ j .rest; chain = (s, j .chain); last = j .last }
 
-joined-trans : {u v w : Word} → Joined u v → Joined v w → Joined u w
-joined-trans {u} {v} {w} j k = go u (j .rest) (j .chain) (j .last)
-  where
-    go : (z : Word) (l : List Word) → Chain z l → lastOf z l ≡ v → Joined z w
-    go z [] h e = subst (λ (y : Word). Joined y w) (sym e) k
-    go z (y ∷ l) h e = joined-step (h .0) (go y l (h .1) e)
+  joined-trans : {u v w : Word} → JoinedBy R u v → JoinedBy R v w → JoinedBy R u w
+  joined-trans {u} {v} {w} j k = go u (j .rest) (j .chain) (j .last)
+    where
+      go : (z : Word) (l : List Word) → Chain R z l → lastOf z l ≡ v → JoinedBy R z w
+      go z [] h e = subst (λ (y : Word). JoinedBy R y w) (sym e) k
+      go z (y ∷ l) h e = joined-step (h .0) (go y l (h .1) e)
 
-step-sym : {u v : Word} → Step u v → Step v u
-step-sym (inl p) = inr p
-step-sym (inr p) = inl p
+  step-sym : {u v : Word} → Step R u v → Step R v u
+  step-sym (inl p) = inr p
+  step-sym (inr p) = inl p
 
-joined-sym : {u v : Word} → Joined u v → Joined v u
-joined-sym {u} {v} j = go u (j .rest) (j .chain) (j .last)
-  where
-    go : (z : Word) (l : List Word) → Chain z l → lastOf z l ≡ v → Joined v z
-    go z [] h e = subst (λ (y : Word). Joined y z) e (joined-refl z)
-    go z (y ∷ l) h e = joined-trans (go y l (h .1) e) (joined-step (step-sym (h .0)) (joined-refl z))
+  joined-sym : {u v : Word} → JoinedBy R u v → JoinedBy R v u
+  joined-sym {u} {v} j = go u (j .rest) (j .chain) (j .last)
+    where
+      go : (z : Word) (l : List Word) → Chain R z l → lastOf z l ≡ v → JoinedBy R v z
+      go z [] h e = subst (λ (y : Word). JoinedBy R y z) e (joined-refl z)
+      go z (y ∷ l) h e = joined-trans (go y l (h .1) e) (joined-step (step-sym (h .0)) (joined-refl z))
 
-puts-cons : (x : Letter) {u v : Word} → Puts u v → Puts (x ∷ u) (x ∷ v)
-puts-cons x p =
-    record {
-      front = x ∷ p .front;
-      back = p .back;
-      string = p .string;
-      eight = p .eight;
-      parted = ap (λ (w : Word). x ∷ w) (p .parted);
-      put = ap (λ (w : Word). x ∷ w) (p .put);
-    }
+  puts-cons : (x : Letter) {u v : Word} → Puts R u v → Puts R (x ∷ u) (x ∷ v)
+  puts-cons x p =
+      record {
+        front = x ∷ p .front;
+        back = p .back;
+        string = p .string;
+        among = p .among;
+        parted = ap (λ (w : Word). x ∷ w) (p .parted);
+        put = ap (λ (w : Word). x ∷ w) (p .put);
+      }
 
-step-cons : (x : Letter) {u v : Word} → Step u v → Step (x ∷ u) (x ∷ v)
-step-cons x (inl p) = inl (puts-cons x p)
-step-cons x (inr p) = inr (puts-cons x p)
+  step-cons : (x : Letter) {u v : Word} → Step R u v → Step R (x ∷ u) (x ∷ v)
+  step-cons x (inl p) = inl (puts-cons x p)
+  step-cons x (inr p) = inr (puts-cons x p)
 
-joined-cons : (x : Letter) {u v : Word} → Joined u v → Joined (x ∷ u) (x ∷ v)
-joined-cons x {u} {v} j = go u (j .rest) (j .chain) (j .last)
-  where
-    go : (z : Word) (l : List Word) → Chain z l → lastOf z l ≡ v → Joined (x ∷ z) (x ∷ v)
-    go z [] h e = subst (λ (y : Word). Joined (x ∷ z) (x ∷ y)) e (joined-refl (x ∷ z))
-    go z (y ∷ l) h e = joined-step (step-cons x (h .0)) (go y l (h .1) e)
+  joined-cons : (x : Letter) {u v : Word} → JoinedBy R u v → JoinedBy R (x ∷ u) (x ∷ v)
+  joined-cons x {u} {v} j = go u (j .rest) (j .chain) (j .last)
+    where
+      go : (z : Word) (l : List Word) → Chain R z l → lastOf z l ≡ v → JoinedBy R (x ∷ z) (x ∷ v)
+      go z [] h e = subst (λ (y : Word). JoinedBy R (x ∷ z) (x ∷ y)) e (joined-refl (x ∷ z))
+      go z (y ∷ l) h e = joined-step (step-cons x (h .0)) (go y l (h .1) e)
 
-pub ≈→joined : {u v : Word} → u ≈ v → Joined u v
-≈→joined {u} ≈-refl = joined-refl u
-≈→joined (≈-sym h) = joined-sym (≈→joined h)
-≈→joined (≈-trans h k) = joined-trans (≈→joined h) (≈→joined k)
-≈→joined (≈-cons x h) = joined-cons x (≈→joined h)
-≈→joined (≈-drop {r} e t) =
-    joined-step
-    (inr (record { front = []; back = t; string = r; eight = e; parted = refl; put = refl }))
-    (joined-refl t)
+  -- A string taken out in front is a step.
+  joined-drop : (r : Word) → R r → (t : Word) → JoinedBy R (r ++ t) t
+  joined-drop r e t =
+      joined-step
+      (inr (record { front = []; back = t; string = r; among = e; parted = refl; put = refl }))
+      (joined-refl t)
 
--- One step of a chain is a string put in, or taken out.
-puts→≈ : {u v : Word} → Puts u v → u ≈ v
-puts→≈ p =
-    ≈-path (p .parted) ⟫ ≈-sym (≈-front (p .front) (≈-drop (p .eight) (p .back))) ⟫ ≈-path (sym (p .put))
+  pub ≈→joined : {u v : Word} → Congruent R u v → JoinedBy R u v
+  ≈→joined {u} ≈-refl = joined-refl u
+  ≈→joined (≈-sym h) = joined-sym (≈→joined h)
+  ≈→joined (≈-trans h k) = joined-trans (≈→joined h) (≈→joined k)
+  ≈→joined (≈-cons x h) = joined-cons x (≈→joined h)
+  ≈→joined (≈-drop {r} e t) = joined-drop r e t
 
-step→≈ : {u v : Word} → Step u v → u ≈ v
-step→≈ (inl p) = puts→≈ p
-step→≈ (inr p) = ≈-sym (puts→≈ p)
+  -- One step of a chain is a string put in, or taken out.
+  puts→≈ : {u v : Word} → Puts R u v → Congruent R u v
+  puts→≈ p =
+      ≈-path (p .parted) ⟫ ≈-sym (≈-front (p .front) (≈-drop (p .among) (p .back))) ⟫ ≈-path (sym (p .put))
 
-pub joined→≈ : {u v : Word} → Joined u v → u ≈ v
-joined→≈ {u} {v} j = go u (j .rest) (j .chain) (j .last)
-  where
-    go : (z : Word) (l : List Word) → Chain z l → lastOf z l ≡ v → z ≈ v
-    go z [] h e = ≈-path e
-    go z (y ∷ l) h e = step→≈ (h .0) ⟫ go y l (h .1) e
+  step→≈ : {u v : Word} → Step R u v → Congruent R u v
+  step→≈ (inl p) = puts→≈ p
+  step→≈ (inr p) = ≈-sym (puts→≈ p)
+
+  pub joined→≈ : {u v : Word} → JoinedBy R u v → Congruent R u v
+  joined→≈ {u} {v} j = go u (j .rest) (j .chain) (j .last)
+    where
+      go : (z : Word) (l : List Word) → Chain R z l → lastOf z l ≡ v → Congruent R z v
+      go z [] h e = ≈-path e
+      go z (y ∷ l) h e = step→≈ (h .0) ⟫ go y l (h .1) e
 
 pub ≈↔joined : (u v : Word) → (u ≈ v) ↔ Joined u v
 ≈↔joined u v = ((λ h. ≈→joined h), (λ j. joined→≈ j))

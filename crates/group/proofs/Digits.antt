@@ -1,136 +1,16 @@
--- The maps on digits (specs/Maps.antt) and those on inner points are the same: two words have the same map at every
--- dyadic point from 0 to 1 just when they move every inner point alike.
---     Low        0, or an inner point                      value p      the point below 1 that digits name
---     onInner g  g, with 0 fixed                           withDigit d  a digit put in front
--- Assumes nothing.
+-- Two words have the same map at every dyadic point from 0 to 1 just when they move every inner point alike; the ends
+-- are fixed, and the zeros behind a point's last digit make no difference. Assumes nothing.
 use mathlib.Core.Path.{_≡_, refl, sym, _∙_, ap, subst, subst₂}
 use mathlib.Core.List.{List, [], _∷_}
 use mathlib.Core.Logic.{_↔_}
 use Prim.Native.Nat.{ℕ, zero, suc}
 use native.Mathlib.Omega.{arith}
-use Rattle.group.specs.Letters.{Letter, 'a, 'A, 'b, 'B, Word}
+use Rattle.group.specs.Letters.{Word}
 use Rattle.group.specs.Points.{Digit, 𝟎, 𝟏, Point, below1, end1, firstDigit, laterDigits, digitAt, SamePoint}
-use Rattle.group.specs.Maps.{rule-a, rule-A, rule-b, rule-B, moveDigits, moveLetter, mapOf, SameMap}
-use Rattle.group.proofs.Inner.{Inner, half, lower, upper, map-a, map-A, lift, letterMap, act, A-undoes-a}
-
-pub data Low : Type 0 where
-  nought : Low
-  inside : Inner → Low
-
-abbrev withDigit : Digit → Low → Low
-withDigit 𝟎 nought = nought
-withDigit 𝟎 (inside p) = inside (lower p)
-withDigit 𝟏 nought = inside half
-withDigit 𝟏 (inside p) = inside (upper p)
-
-abbrev value : List Digit → Low
-value [] = nought
-value (d ∷ p) = withDigit d (value p)
-
-abbrev onInner : (Inner → Inner) → Low → Low
-onInner g nought = nought
-onInner g (inside p) = inside (g p)
-
-on-inner-id : (c : Low) → onInner (λ p. p) c ≡ c
-on-inner-id nought = refl
-on-inner-id (inside p) = refl
-
-on-inner-twice : (f g : Inner → Inner) (c : Low) → onInner f (onInner g c) ≡ onInner (λ p. f (g p)) c
-on-inner-twice f g nought = refl
-on-inner-twice f g (inside p) = refl
-
-on-inner-cong : (f g : Inner → Inner) → ((p : Inner) → f p ≡ g p) → (c : Low) → onInner f c ≡ onInner g c
-on-inner-cong f g h nought = refl
-on-inner-cong f g h (inside p) = ap inside (h p)
-
--- The three rules of a: 0 by 00, 10 by 01, 11 by 1.
-a-on-0 : (c : Low) → withDigit 𝟎 (withDigit 𝟎 c) ≡ onInner map-a (withDigit 𝟎 c)
-a-on-0 nought = refl
-a-on-0 (inside p) = refl
-
-a-on-10 : (c : Low) → withDigit 𝟎 (withDigit 𝟏 c) ≡ onInner map-a (withDigit 𝟏 (withDigit 𝟎 c))
-a-on-10 nought = refl
-a-on-10 (inside p) = refl
-
-a-on-11 : (c : Low) → withDigit 𝟏 c ≡ onInner map-a (withDigit 𝟏 (withDigit 𝟏 c))
-a-on-11 nought = refl
-a-on-11 (inside p) = refl
-
--- Those of A are the same, read the other way.
-undone : (c d : Low) → d ≡ onInner map-a c → c ≡ onInner map-A d
-undone c d e =
-    sym
-    (ap (onInner map-A) e
-    ∙ on-inner-twice map-A map-a c
-    ∙ on-inner-cong (λ p. map-A (map-a p)) (λ p. p) A-undoes-a c
-    ∙ on-inner-id c)
-
-rule-a-value : (d e : Digit) (r : List Digit) → value (rule-a d e r) ≡ onInner map-a (value (d ∷ e ∷ r))
-rule-a-value 𝟎 e r = a-on-0 (withDigit e (value r))
-rule-a-value 𝟏 𝟎 r = a-on-10 (value r)
-rule-a-value 𝟏 𝟏 r = a-on-11 (value r)
-
-rule-A-value : (d e : Digit) (r : List Digit) → value (rule-A d e r) ≡ onInner map-A (value (d ∷ e ∷ r))
-rule-A-value 𝟎 𝟎 r = undone (value (𝟎 ∷ r)) (value (𝟎 ∷ 𝟎 ∷ r)) (a-on-0 (value r))
-rule-A-value 𝟎 𝟏 r = undone (value (𝟏 ∷ 𝟎 ∷ r)) (value (𝟎 ∷ 𝟏 ∷ r)) (a-on-10 (value r))
-rule-A-value 𝟏 e r = undone (value (𝟏 ∷ 𝟏 ∷ e ∷ r)) (value (𝟏 ∷ e ∷ r)) (a-on-11 (withDigit e (value r)))
-
--- b and B are a and A behind a leading digit 1, and change nothing behind a leading 0.
-rule-b-behind-1 : (e f : Digit) (r : List Digit) → rule-b 𝟏 e f r ≡ 𝟏 ∷ rule-a e f r
-rule-b-behind-1 𝟎 f r = refl
-rule-b-behind-1 𝟏 𝟎 r = refl
-rule-b-behind-1 𝟏 𝟏 r = refl
-
-rule-B-behind-1 : (e f : Digit) (r : List Digit) → rule-B 𝟏 e f r ≡ 𝟏 ∷ rule-A e f r
-rule-B-behind-1 𝟎 𝟎 r = refl
-rule-B-behind-1 𝟎 𝟏 r = refl
-rule-B-behind-1 𝟏 f r = refl
-
-lift-behind-0 : (g : Inner → Inner) (c : Low) → withDigit 𝟎 c ≡ onInner (lift g) (withDigit 𝟎 c)
-lift-behind-0 g nought = refl
-lift-behind-0 g (inside p) = refl
-
-lift-behind-1 : (g : Inner → Inner) (c : Low) → withDigit 𝟏 (onInner g c) ≡ onInner (lift g) (withDigit 𝟏 c)
-lift-behind-1 g nought = refl
-lift-behind-1 g (inside p) = refl
-
-rule-b-value : (d e f : Digit) (r : List Digit) → value (rule-b d e f r) ≡ onInner (lift map-a) (value (d ∷ e ∷ f ∷ r))
-rule-b-value 𝟎 e f r = lift-behind-0 map-a (value (e ∷ f ∷ r))
-rule-b-value 𝟏 e f r =
-    ap value (rule-b-behind-1 e f r) ∙ ap (withDigit 𝟏) (rule-a-value e f r) ∙ lift-behind-1 map-a (value (e ∷ f ∷ r))
-
-rule-B-value : (d e f : Digit) (r : List Digit) → value (rule-B d e f r) ≡ onInner (lift map-A) (value (d ∷ e ∷ f ∷ r))
-rule-B-value 𝟎 e f r = lift-behind-0 map-A (value (e ∷ f ∷ r))
-rule-B-value 𝟏 e f r =
-    ap value (rule-B-behind-1 e f r) ∙ ap (withDigit 𝟏) (rule-A-value e f r) ∙ lift-behind-1 map-A (value (e ∷ f ∷ r))
-
--- Reading a digit past the end, as 0, changes no value.
-value-1 : (p : List Digit) → value (firstDigit p ∷ laterDigits p) ≡ value p
-value-1 [] = refl
-value-1 (d ∷ p) = refl
-
-value-2 : (p : List Digit) → value (firstDigit p ∷ firstDigit (laterDigits p) ∷ laterDigits (laterDigits p)) ≡ value p
-value-2 p = ap (withDigit (firstDigit p)) (value-1 (laterDigits p)) ∙ value-1 p
-
-value-3 : (p q : List Digit) → q ≡ laterDigits p
-    → value (firstDigit p ∷ firstDigit q ∷ firstDigit (laterDigits q) ∷ laterDigits (laterDigits q)) ≡ value p
-value-3 p q e = ap (withDigit (firstDigit p)) (value-2 q ∙ ap value e) ∙ value-1 p
-
-move-digits-value : (x : Letter) (p : List Digit) → value (moveDigits x p) ≡ onInner (letterMap x) (value p)
-move-digits-value 'a p =
-    rule-a-value (firstDigit p) (firstDigit (laterDigits p)) (laterDigits (laterDigits p))
-    ∙ ap (onInner map-a) (value-2 p)
-move-digits-value 'A p =
-    rule-A-value (firstDigit p) (firstDigit (laterDigits p)) (laterDigits (laterDigits p))
-    ∙ ap (onInner map-A) (value-2 p)
-move-digits-value 'b p =
-    let q : List Digit = laterDigits p in
-    rule-b-value (firstDigit p) (firstDigit q) (firstDigit (laterDigits q)) (laterDigits (laterDigits q))
-    ∙ ap (onInner (lift map-a)) (value-3 p q refl)
-move-digits-value 'B p =
-    let q : List Digit = laterDigits p in
-    rule-B-value (firstDigit p) (firstDigit q) (firstDigit (laterDigits q)) (laterDigits (laterDigits q))
-    ∙ ap (onInner (lift map-A)) (value-3 p q refl)
+use Rattle.group.specs.Maps.{moveDigits, moveLetter, mapOf, SameMap}
+use Rattle.group.proofs.Inner.{Inner, half, lower, upper, letterMap, act}
+use Rattle.group.proofs.Values.{Low, nought, inside, withDigit, value, value-1, move-digits-value}
+use Rattle.group.proofs.Values.{onInner, on-inner-id, on-inner-twice, on-inner-cong}
 
 -- The digits that a word makes of digits.
 abbrev moveAll : Word → List Digit → List Digit

@@ -1,19 +1,20 @@
--- The form of an inverse is the form with its sides exchanged, and a letter put behind a form is its inverse put in front,
--- between two exchanges. The letters of an exchanged form are the inverse of the form's letters, letter for letter.
--- Assumes nothing.
+-- The form of an inverse is the form with its sides exchanged, and a letter put behind a form is its inverse put in
+-- front, between two exchanges. The letters of an exchanged form are the inverse of the form's letters, letter for
+-- letter. Assumes nothing.
 use mathlib.Core.Path.{_≡_, refl, sym, _∙_, ap, ap₂}
-use mathlib.Core.List.{List, [], _∷_, _++_}
+use mathlib.Core.List.{[], _∷_, _++_}
 use mathlib.Core.Logic.{_⊎_, inl, inr}
-use Prim.Native.Nat.{ℕ, zero, suc, _+_, _<_}
+use Prim.Native.Nat.{ℕ, zero, suc, _<_}
 use native.Mathlib.Omega.{arith}
 use Rattle.lists.specs.Copies.{copies}
 use Rattle.lists.proofs.Copies.{copies-past}
 use Rattle.group.specs.Letters.{Letter, Word, inverseLetter, inverse}
 use Rattle.group.specs.Chains.{Joined}
-use Rattle.group.specs.Forms.{Side, bSide, aSide, Form, empty, level, generator, exponent, Trimmed, ascending, descending, letters}
+use Rattle.group.specs.Forms.{bSide, aSide, Form, empty, level, generator, exponent, Trimmed, ascending}
+use Rattle.group.specs.Forms.{descending, letters}
 use Rattle.group.specs.Reducing.{Reduced}
 use Rattle.group.specs.Products.{timesLetter, formOf, exchange, behindLetter}
-use Rattle.group.proofs.Congruence.{_≈_, ≈-sym, _⟫_, ≈-path, ≈-front, ≈-back, ≈→joined}
+use Rattle.group.proofs.Congruence.{_≈_, _⟫_, ≈-path, ≈-back, ≈→joined}
 use Rattle.group.proofs.Inverses.{inverse-letter-twice, inverse-append, inverse-twice, inverse-cong, eight-pairs}
 use Rattle.group.proofs.Products.{times-letter-sound, form-sound}
 use Rattle.group.proofs.Reduced.{Canonical, letter-canonical, form-canonical}

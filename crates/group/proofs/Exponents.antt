@@ -1,8 +1,8 @@
 -- Exponents say all of a form but the levels (0, 0) at its end: trimmed forms with the same exponents are equal.
 --     above f   the levels above the first
 -- Assumes nothing.
-use mathlib.Core.Path.{_≡_, refl, sym, _∙_, ap}
-use Prim.Native.Nat.{ℕ, zero, suc, _+_, _<_}
+use mathlib.Core.Path.{_≡_, refl, sym, _∙_}
+use Prim.Native.Nat.{ℕ, zero, suc}
 use native.Mathlib.Omega.{arith}
 use Rattle.group.specs.Forms.{Side, bSide, aSide, Form, empty, level, exponent, SameExponents, Trimmed}
 

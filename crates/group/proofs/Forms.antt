@@ -1,6 +1,7 @@
--- The theorems on forms and words: uniqueness, equal forms just when a chain joins the words, just when their maps agree;
--- and that any reduced form which keeps the word's map, however it was found, is the form of the word. Assumes nothing.
-use mathlib.Core.Path.{_≡_, refl, sym, _∙_, ap, subst}
+-- The theorems on forms and words: uniqueness; equal forms just when a chain joins the words, and just when their maps
+-- agree; and that any reduced form which keeps the word's map, however it was found, is the form of the word.
+-- Assumes nothing.
+use mathlib.Core.Path.{_≡_, sym, _∙_, ap}
 use mathlib.Core.List.{[], _∷_}
 use mathlib.Core.Logic.{_↔_}
 use Rattle.group.specs.Letters.{Letter, Word, inverseLetter}
@@ -23,8 +24,8 @@ pub joined-map : (u v : Word) → Joined u v → SameMap u v
 joined-map u v j = act→map u v (act-cong (joined→≈ j))
 
 -- A letter undoes its inverse, at every point.
-pub inverse-undoes : (x : Letter) → SameMap (inverseLetter x ∷ x ∷ []) []
-inverse-undoes x = act→map (inverseLetter x ∷ x ∷ []) [] (act-cong (cancel-letter eight-pairs x []))
+pub letter-undone : (x : Letter) → SameMap (inverseLetter x ∷ x ∷ []) []
+letter-undone x = act→map (inverseLetter x ∷ x ∷ []) [] (act-cong (cancel-letter eight-pairs x []))
 
 -- The letters of a word's form have the word's map, at every dyadic point from 0 to 1.
 pub form-map : (w : Word) → SameMap (letters (formOf w)) w
@@ -35,10 +36,12 @@ pub unique-exponents : (f g : Form) → Reduced f → Reduced g → SameMap (let
 unique-exponents f g r q h =
     unique-levels f g r q (λ p. sym (act-letters f p) ∙ map→act (letters f) (letters g) h p ∙ act-letters g p)
 
-pub unique-form : (f g : Form) → Reduced f → Reduced g → Trimmed f → Trimmed g → SameMap (letters f) (letters g) → f ≡ g
+pub unique-form : (f g : Form) → Reduced f → Reduced g → Trimmed f → Trimmed g
+    → SameMap (letters f) (letters g) → f ≡ g
 unique-form f g r q t u h = trimmed-equal f g t u (unique-exponents f g r q h)
 
-pub unique-joined : (f g : Form) → Reduced f → Reduced g → Trimmed f → Trimmed g → Joined (letters f) (letters g) → f ≡ g
+pub unique-joined : (f g : Form) → Reduced f → Reduced g → Trimmed f → Trimmed g
+    → Joined (letters f) (letters g) → f ≡ g
 unique-joined f g r q t u j = unique-form f g r q t u (joined-map (letters f) (letters g) j)
 
 -- The form of w is any reduced form whose letters are joined to w, or whose map is that of w.

@@ -1,9 +1,10 @@
 -- Free reduction: neighbouring inverse letters deleted. Words with one freely reduced word are congruent, so that all
 -- letter-level derivations are checked by computing. Assumes nothing.
-use mathlib.Core.Path.{_≡_, refl, ap}
-use mathlib.Core.List.{List, [], _∷_, _++_}
+use mathlib.Core.Path.{_≡_, ap}
+use mathlib.Core.List.{[], _∷_, _++_}
 use Prim.Native.String.{String}
 use Rattle.group.specs.Letters.{Letter, sameLetter, Word, inverseLetter}
+use Rattle.group.specs.Chains.{Strings}
 use Rattle.group.specs.Texts.{word}
 use Rattle.group.proofs.Congruence.{Congruent, ≈-refl, ≈-sym, ≈-cons, ≈-drop, _⟫_, ≈-path, ≈-front, ≈-back}
 use Rattle.group.proofs.Inverses.{HasPairs}
@@ -22,7 +23,7 @@ abbrev pub freely : Word → Word
 freely [] = []
 freely (x ∷ w) = push x (freely w)
 
-module _ {R : Word → Type 0} (pairs : HasPairs R) where
+module _ {R : Strings} (pairs : HasPairs R) where
   push-on-sound : (x y : Letter) (d : Dec (y ≡ inverseLetter x)) (w : Word) → Congruent R (x ∷ y ∷ w) (pushOn x y d w)
   push-on-sound x y (yes e) w = ≈-path (ap (λ (z : Letter). x ∷ z ∷ w) e) ⟫ ≈-drop (pairs x) w
   push-on-sound x y (no n) w = ≈-refl

@@ -1,19 +1,18 @@
--- The generators x_k through the shift: x_k is congruent to σ applied k times to a. Hence x_i⁻¹ x_j x_i = x_(j+1) for all
--- i below j, and the finite and the infinite presentation agree on words (000, section 2.1; 01, 'Letters and maps').
--- Assumes nothing.
+-- The generators x_k through the shift: x_k is congruent to σ applied k times to a. Hence x_i⁻¹ x_j x_i = x_(j+1) for
+-- all i below j (01, 'Letters and maps'; 000, section 2.1). Assumes nothing.
 use mathlib.Core.Path.{_≡_, refl, sym, _∙_, ap}
-use mathlib.Core.List.{List, [], _∷_, _++_, append-assoc, append-nil}
-use mathlib.Core.Logic.{_↔_}
+use mathlib.Core.List.{[], _∷_, _++_, append-nil}
 use Prim.Native.Nat.{ℕ, zero, suc, _+_, _-_, _<_}
 use native.Mathlib.Omega.{arith}
 use lib.ListN.{replicate}
 use Rattle.lists.proofs.Copies.{replicate-past}
-use Rattle.group.specs.Letters.{Letter, 'a, 'A, 'b, 'B, Word, inverseLetter, inverse}
-use Rattle.group.specs.Chains.{relator1, relator2, Eight, pair-aA, pair-Aa, pair-bB, pair-Bb, first, second, first-inverse, second-inverse, Joined}
+use Rattle.group.specs.Letters.{'a, 'A, Word, inverse}
+use Rattle.group.specs.Chains.{pair-Aa}
+use Rattle.group.specs.Chains.{Joined}
 use Rattle.group.specs.Forms.{generator}
-use Rattle.group.proofs.Congruence.{Congruent, _≈_, ≈-refl, ≈-sym, ≈-trans, ≈-cons, ≈-drop, _⟫_, ≈-path, ≈-front, ≈-back, ≈-append, ≈→joined, joined→≈}
-use Rattle.group.proofs.Inverses.{HasPairs, eight-pairs, cancel-behind, inverse-cong}
-use Rattle.group.proofs.FreeReduction.{via}
+use Rattle.group.proofs.Congruence.{_≈_, ≈-refl, ≈-sym, ≈-cons, ≈-drop, _⟫_, ≈-path, ≈-front}
+use Rattle.group.proofs.Congruence.{≈-append, ≈→joined}
+use Rattle.group.proofs.Inverses.{eight-pairs, inverse-cong}
 use Rattle.group.proofs.Shift.{σ, σ-append, σ-inverse, σ-cong, A-past, a-past}
 
 -- The shift, k times.
@@ -83,47 +82,9 @@ conjugate-by i m j e =
     ⟫ ≈-path (σs-add i (suc (suc m)) (suc j) ('a ∷ []) (omega arith))
     ⟫ ≈-sym (generator-σs (suc j))
 
-conjugate-≈ : (i j : ℕ) → i < j → (inverse (generator i) ++ (generator j ++ generator i)) ≈ generator (suc j)
+pub conjugate-≈ : (i j : ℕ) → i < j → (inverse (generator i) ++ (generator j ++ generator i)) ≈ generator (suc j)
 conjugate-≈ i j h = conjugate-by i (j - suc i) j (omega arith)
 
-pub conjugate-generator : (i j : ℕ) → i < j → Joined (inverse (generator i) ++ (generator j ++ generator i)) (generator (suc j))
+pub conjugate-generator : (i j : ℕ) → i < j
+    → Joined (inverse (generator i) ++ (generator j ++ generator i)) (generator (suc j))
 conjugate-generator i j h = ≈→joined (conjugate-≈ i j h)
-
--- The relators of the infinite presentation (000, presentation 2), and the pairs that make words a group.
-pub data Infinite : Word → Type 0 where
-  pair : (x : Letter) → Infinite (x ∷ inverseLetter x ∷ [])
-  conjugate : (i j : ℕ) → i < j
-      → Infinite ((inverse (generator i) ++ (generator j ++ generator i)) ++ inverse (generator (suc j)))
-
--- A congruence in which the strings of another vanish has all that the other has.
-congruent-within : {R S : Word → Type 0} → ((r : Word) → R r → Congruent S r []) → {u v : Word} → Congruent R u v → Congruent S u v
-congruent-within h ≈-refl = ≈-refl
-congruent-within h (≈-sym k) = ≈-sym (congruent-within h k)
-congruent-within h (≈-trans k l) = ≈-trans (congruent-within h k) (congruent-within h l)
-congruent-within h (≈-cons x k) = ≈-cons x (congruent-within h k)
-congruent-within h (≈-drop {r} e t) = ≈-back (h r e) t
-
-infinite-vanishes : (r : Word) → Infinite r → r ≈ []
-infinite-vanishes r (pair x) = ≈-drop (eight-pairs x) []
-infinite-vanishes r (conjugate i j h) =
-    ≈-back (conjugate-≈ i j h) (inverse (generator (suc j))) ⟫ cancel-behind eight-pairs (generator (suc j))
-
-relator1-vanishes : Congruent Infinite relator1 []
-relator1-vanishes = via pair "aBAbabAABa" "" "a" "A" (≈-drop (conjugate 1 2 (omega arith)) []) refl refl
-
-relator2-vanishes : Congruent Infinite relator2 []
-relator2-vanishes = via pair "aBAAbaabAAABaa" "" "a" "A" (≈-drop (conjugate 1 3 (omega arith)) []) refl refl
-
-eight-vanishes : (r : Word) → Eight r → Congruent Infinite r []
-eight-vanishes r pair-aA = ≈-drop (pair 'a) []
-eight-vanishes r pair-Aa = ≈-drop (pair 'A) []
-eight-vanishes r pair-bB = ≈-drop (pair 'b) []
-eight-vanishes r pair-Bb = ≈-drop (pair 'B) []
-eight-vanishes r first = relator1-vanishes
-eight-vanishes r second = relator2-vanishes
-eight-vanishes r first-inverse = inverse-cong pair relator1-vanishes
-eight-vanishes r second-inverse = inverse-cong pair relator2-vanishes
-
-pub presentations-agree : (u v : Word) → Congruent Infinite u v ↔ Joined u v
-presentations-agree u v =
-    ((λ h. ≈→joined (congruent-within infinite-vanishes h)), (λ j. congruent-within eight-vanishes (joined→≈ j)))

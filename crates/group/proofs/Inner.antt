@@ -1,10 +1,9 @@
--- Dyadic points strictly between 0 and 1, with nothing behind the last digit 1, and the letters' maps on them. Here equal
--- points are equal on the nose, which digits with any number of zeros behind them are not.
+-- Dyadic points strictly between 0 and 1, with nothing behind the last digit 1, and the letters' maps on them. A point
+-- has one such name, while it has many as digits with zeros behind them.
 --     half, lower p, upper p   1/2, p behind a digit 0, p behind a digit 1      lift g   g behind a digit 1
 -- b is a behind a digit 1, so that x_(k+1) is x_k behind a digit 1. Assumes nothing.
-use mathlib.Core.Path.{_≡_, refl, sym, _∙_, ap}
-use mathlib.Core.List.{List, [], _∷_, _++_}
-use Prim.Native.Nat.{ℕ, zero, suc}
+use mathlib.Core.Path.{_≡_, refl, _∙_, ap}
+use mathlib.Core.List.{[], _∷_, _++_}
 use Rattle.group.specs.Letters.{Letter, 'a, 'A, 'b, 'B, Word, inverseLetter, inverse}
 
 pub data Inner : Type 0 where

@@ -1,10 +1,10 @@
 -- Inverses of words: laws of `inverse`, and a word with its inverse behind or in front of it cancels.
 -- The congruence may be any one that has the four pairs x x⁻¹. Assumes nothing.
 use mathlib.Core.Path.{_≡_, refl, sym, _∙_, ap, ap₂}
-use mathlib.Core.List.{List, [], _∷_, _++_, append-assoc, append-nil}
+use mathlib.Core.List.{[], _∷_, _++_, append-assoc, append-nil}
 use Rattle.group.specs.Letters.{Letter, 'a, 'A, 'b, 'B, Word, inverseLetter, inverse}
-use Rattle.group.specs.Chains.{Eight, pair-aA, pair-Aa, pair-bB, pair-Bb}
-use Rattle.group.proofs.Congruence.{Congruent, ≈-refl, ≈-sym, ≈-trans, ≈-cons, ≈-drop, _⟫_, ≈-path, ≈-front, ≈-back, ≈-append}
+use Rattle.group.specs.Chains.{Strings, Eight, pair-aA, pair-Aa, pair-bB, pair-Bb}
+use Rattle.group.proofs.Congruence.{Congruent, ≈-refl, ≈-sym, ≈-cons, ≈-drop, _⟫_, ≈-path, ≈-front, ≈-back}
 
 pub inverse-letter-twice : (x : Letter) → inverseLetter (inverseLetter x) ≡ x
 inverse-letter-twice 'a = refl
@@ -25,7 +25,7 @@ inverse-twice (x ∷ w) =
     ∙ ap₂ (λ (y : Letter) (u : Word). y ∷ u) (inverse-letter-twice x) (inverse-twice w)
 
 -- The four pairs x x⁻¹ are among the strings.
-abbrev pub HasPairs : (Word → Type 0) → Type 0
+abbrev pub HasPairs : Strings → Type 0
 HasPairs R = (x : Letter) → R (x ∷ inverseLetter x ∷ [])
 
 pub eight-pairs : HasPairs Eight
@@ -34,7 +34,7 @@ eight-pairs 'A = pair-Aa
 eight-pairs 'b = pair-bB
 eight-pairs 'B = pair-Bb
 
-module _ {R : Word → Type 0} (pairs : HasPairs R) where
+module _ {R : Strings} (pairs : HasPairs R) where
   -- x⁻¹ x cancels too.
   pub cancel-letter : (x : Letter) (t : Word) → Congruent R (inverseLetter x ∷ x ∷ t) t
   cancel-letter x t =
@@ -44,7 +44,9 @@ module _ {R : Word → Type 0} (pairs : HasPairs R) where
   pub cancel-behind : (w : Word) → Congruent R (w ++ inverse w) []
   cancel-behind [] = ≈-refl
   cancel-behind (x ∷ w) =
-      ≈-cons x (≈-path (sym (append-assoc w (inverse w) (inverseLetter x ∷ []))) ⟫ ≈-back (cancel-behind w) (inverseLetter x ∷ []))
+      ≈-cons x
+      (≈-path (sym (append-assoc w (inverse w) (inverseLetter x ∷ [])))
+      ⟫ ≈-back (cancel-behind w) (inverseLetter x ∷ []))
       ⟫ ≈-drop (pairs x) []
 
   pub cancel-front : (w t : Word) → Congruent R (inverse w ++ (w ++ t)) t

@@ -1,7 +1,7 @@
--- A letter times a form is sound: the letter in front of the form's spelling is congruent to the spelling of the product.
--- So a word is joined to the letters of its form. Assumes nothing.
-use mathlib.Core.Path.{_≡_, refl, sym, ap}
-use mathlib.Core.List.{List, [], _∷_, _++_, append-assoc, append-nil}
+-- A letter times a form is sound: the letter in front of the form's spelling is congruent to the spelling of the
+-- product. So a word is joined to the letters of its form. Assumes nothing.
+use mathlib.Core.Path.{_≡_, sym, ap}
+use mathlib.Core.List.{[], _∷_, _++_, append-assoc, append-nil}
 use Prim.Native.Nat.{ℕ, zero, suc, _+_}
 use native.Mathlib.Omega.{arith}
 use lib.ListN.{replicate}

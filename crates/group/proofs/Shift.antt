@@ -1,10 +1,11 @@
 -- The shift of words, σ: a to b and b to Aba, so that σ takes x_k to x_(k+1). It respects the congruence, and shifting
--- twice is conjugation by a. The relators of 01 say x1⁻¹x2x1 = x3 and x1⁻¹x3x1 = x4 (000, presentation 1); what σ makes of
--- them also needs x1⁻¹x4x1 = x5, which follows. Assumes nothing.
+-- twice is conjugation by a. The relators of 01 say x1⁻¹x2x1 = x3 and x1⁻¹x3x1 = x4 (000, presentation 1); what σ makes
+-- of them also needs x1⁻¹x4x1 = x5, which follows. Assumes nothing.
 use mathlib.Core.Path.{_≡_, refl, sym, _∙_, ap}
-use mathlib.Core.List.{List, [], _∷_, _++_, append-assoc}
+use mathlib.Core.List.{[], _∷_, _++_}
 use Rattle.group.specs.Letters.{Letter, 'a, 'A, 'b, 'B, Word, inverse}
-use Rattle.group.specs.Chains.{relator1, relator2, Eight, pair-aA, pair-Aa, pair-bB, pair-Bb, first, second, first-inverse, second-inverse}
+use Rattle.group.specs.Chains.{relator1, relator2, Eight, pair-aA, pair-Aa, pair-bB, pair-Bb, first, second}
+use Rattle.group.specs.Chains.{first-inverse, second-inverse}
 use Rattle.group.specs.Texts.{word}
 use Rattle.group.proofs.Congruence.{_≈_, ≈-refl, ≈-sym, ≈-trans, ≈-cons, ≈-drop, _⟫_, ≈-path, ≈-front, ≈-back}
 use Rattle.group.proofs.Inverses.{inverse-append, inverse-cong, eight-pairs}

@@ -1,7 +1,7 @@
--- Reduced forms with one map have the same exponents (000, section 2.4.2). The points 0…01 tell b_0 − a_0, so the larger
--- first level exceeds the other by d on both sides. Cancel the smaller powers: if d is above 0, the map of the levels
--- above the larger one fixes every point that begins with 0, and a reduced form with such a map has (0, 0) for its first
--- level, which breaks the clause one level below. Assumes nothing.
+-- Reduced forms with one map have the same exponents (000, section 2.4.2). The map gives b_0 − a_0, so the larger first
+-- level exceeds the other by one number d on both sides. Cancel the smaller powers: if d is above 0, the map of the
+-- levels above the larger one fixes every point that begins with 0. A reduced form with such a map has (0, 0) for its
+-- first level, and that breaks the clause one level below. Assumes nothing.
 use mathlib.Core.Path.{_≡_, refl, sym, _∙_, ap, subst}
 use mathlib.Core.Logic.{_⊎_, inl, inr}
 use Prim.Native.Nat.{ℕ, zero, suc, _+_, _-_, _<_, _≤_}
@@ -10,83 +10,9 @@ use native.Mathlib.Decide.{decLe}
 use Rattle.group.specs.Forms.{Side, bSide, aSide, Form, empty, level, onSide, exponent, SameExponents}
 use Rattle.group.specs.Reducing.{Reduced}
 use Rattle.group.proofs.Exponents.{same-level}
-use Rattle.group.proofs.Inner.{Inner, half, lower, upper, map-a, map-A, lift, A-undoes-a}
+use Rattle.group.proofs.Inner.{Inner, lower, upper, map-a, map-A, lift}
 use Rattle.group.proofs.Actions.{iter, formMap}
-
--- The points 0^m 1.
-abbrev zeros1 : ℕ → Inner
-zeros1 zero = half
-zeros1 (suc m) = lower (zeros1 m)
-
-zeros1-injective : (m n : ℕ) → zeros1 m ≡ zeros1 n → m ≡ n
-zeros1-injective zero zero e = refl
-zeros1-injective zero (suc n) e = cc
-zeros1-injective (suc m) zero e = cc
-zeros1-injective (suc m) (suc n) e = ap suc (zeros1-injective m n (cc))
-
-A-zeros1 : (k : ℕ) → map-A (zeros1 (suc k)) ≡ zeros1 k
-A-zeros1 zero = refl
-A-zeros1 (suc k) = refl
-
-a-zeros1 : (k : ℕ) → map-a (zeros1 k) ≡ zeros1 (suc k)
-a-zeros1 zero = refl
-a-zeros1 (suc k) = refl
-
-lift-zeros1 : (g : Inner → Inner) (k : ℕ) → lift g (zeros1 k) ≡ zeros1 k
-lift-zeros1 g zero = refl
-lift-zeros1 g (suc k) = refl
-
-iter-A-zeros1 : (m n k : ℕ) → n ≡ m + k → iter map-A m (zeros1 n) ≡ zeros1 k
-iter-A-zeros1 zero n k e =
-    let d : n ≡ k = omega arith in
-    ap zeros1 d
-iter-A-zeros1 (suc m) n k e = ap map-A (iter-A-zeros1 m n (suc k) (omega arith)) ∙ A-zeros1 k
-
-iter-a-zeros1 : (n k j : ℕ) → j ≡ n + k → iter map-a n (zeros1 k) ≡ zeros1 j
-iter-a-zeros1 zero k j e =
-    let d : k ≡ j = omega arith in
-    ap zeros1 d
-iter-a-zeros1 (suc n) k j e =
-    let d : suc (n + k) ≡ j = omega arith in
-    ap map-a (iter-a-zeros1 n k (n + k) refl) ∙ a-zeros1 (n + k) ∙ ap zeros1 d
-
--- A level takes 0^(a+k) 1 to 0^(b+k) 1.
-form-zeros1 : (b a : ℕ) (f : Form) (k x y : ℕ) → x ≡ a + k → y ≡ b + k → formMap (level b a f) (zeros1 x) ≡ zeros1 y
-form-zeros1 b a f k x y e d =
-    ap (λ q. iter map-a b (lift (formMap f) q)) (iter-A-zeros1 a x k e)
-    ∙ ap (iter map-a b) (lift-zeros1 (formMap f) k)
-    ∙ iter-a-zeros1 b k y d
-
--- So the map gives b − a, its slope at 0.
-slope : (b a c d : ℕ) (f g : Form) → ((p : Inner) → formMap (level b a f) p ≡ formMap (level c d g) p) → b + d ≡ c + a
-slope b a c d f g h =
-    zeros1-injective (b + d) (c + a)
-    (sym (form-zeros1 b a f d (a + d) (b + d) refl refl)
-    ∙ h (zeros1 (a + d))
-    ∙ form-zeros1 c d g a (a + d) (c + a) (omega arith) refl)
-
--- Powers of a map.
-iter-out : (g : Inner → Inner) (n : ℕ) (p : Inner) → iter g n (g p) ≡ g (iter g n p)
-iter-out g zero p = refl
-iter-out g (suc n) p = ap g (iter-out g n p)
-
-iter-add : (g : Inner → Inner) (n d k : ℕ) (p : Inner) → k ≡ n + d → iter g k p ≡ iter g n (iter g d p)
-iter-add g zero d k p e =
-    let c : k ≡ d = omega arith in
-    ap (λ j. iter g j p) c
-iter-add g (suc n) d k p e =
-    let c : k ≡ suc (n + d) = omega arith in
-    ap (λ j. iter g j p) c ∙ ap g (iter-add g n d (n + d) p refl)
-
-iter-undo : (n : ℕ) (p : Inner) → iter map-A n (iter map-a n p) ≡ p
-iter-undo zero p = refl
-iter-undo (suc n) p =
-    sym (iter-out map-A n (map-a (iter map-a n p)))
-    ∙ ap (iter map-A n) (A-undoes-a (iter map-a n p))
-    ∙ iter-undo n p
-
-iter-injective : (n : ℕ) (p q : Inner) → iter map-a n p ≡ iter map-a n q → p ≡ q
-iter-injective n p q e = sym (iter-undo n p) ∙ ap (iter map-A n) e ∙ iter-undo n q
+use Rattle.group.proofs.Slope.{zeros1, zeros1-injective, form-zeros1, slope, iter-add, iter-undo, iter-injective}
 
 upper-injective : (p q : Inner) → upper p ≡ upper q → p ≡ q
 upper-injective p q e = cc

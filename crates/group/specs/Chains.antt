@@ -1,12 +1,13 @@
 -- Chains: when two words are the same element of the group (01, 'Chains'; 001 has the relators, written u v u⁻¹ v⁻¹).
 -- Nothing here mentions a map, a form or a record.
---     relator1, relator2   the two relators           Eight    one of the eight strings
---     Step                 one step of a chain        Joined   a chain joins the two words
+--     relator1, relator2   the two relators             Step S u v   one step from u to v with a string of S
+--     Eight                the eight strings of 01      Joined u v   a chain with the eight strings joins u to v
+-- The strings that steps put in and take out are a parameter, S; for every demand they are the eight.
 -- Assumes nothing.
 use mathlib.Core.Path.{_≡_}
 use mathlib.Core.List.{List, [], _∷_, _++_}
 use mathlib.Core.Logic.{_⊎_}
-use Rattle.group.specs.Letters.{Letter, 'a, 'A, 'b, 'B, Word, inverse}
+use Rattle.group.specs.Letters.{'a, 'A, 'b, 'B, Word, inverse}
 
 -- aBAbabAABa
 abbrev pub relator1 : Word
@@ -16,7 +17,11 @@ relator1 = 'a ∷ 'B ∷ 'A ∷ 'b ∷ 'a ∷ 'b ∷ 'A ∷ 'A ∷ 'B ∷ 'a ∷
 abbrev pub relator2 : Word
 relator2 = 'a ∷ 'B ∷ 'A ∷ 'A ∷ 'b ∷ 'a ∷ 'a ∷ 'b ∷ 'A ∷ 'A ∷ 'A ∷ 'B ∷ 'a ∷ 'a ∷ []
 
--- The eight strings that a step puts in or takes out: four pairs, the two relators, their two inverses.
+-- A set of strings: which words are in it.
+abbrev pub Strings : Type 1
+Strings = Word → Type 0
+
+-- The eight strings: four pairs, the two relators, their two inverses.
 pub data Eight : Word → Type 0 where
   pair-aA : Eight ('a ∷ 'A ∷ [])
   pair-Aa : Eight ('A ∷ 'a ∷ [])
@@ -27,31 +32,35 @@ pub data Eight : Word → Type 0 where
   first-inverse : Eight (inverse relator1)
   second-inverse : Eight (inverse relator2)
 
--- `v` is `u`, parted at any place, with one of the eight put between the parts.
-pub record Puts (u v : Word) : Type 0 where
+-- `v` is `u`, parted at any place, its two ends too, with one of the strings put between the parts.
+pub record Puts (S : Strings) (u v : Word) : Type 0 where
   pub front : Word
   pub back : Word
   pub string : Word
-  pub eight : Eight string
+  pub among : S string
   pub parted : u ≡ front ++ back
   pub put : v ≡ front ++ (string ++ back)
 
--- One step from `u` to `v`: one of the eight is put in, or taken out whole.
-abbrev pub Step : Word → Word → Type 0
-Step u v = Puts u v ⊎ Puts v u
+-- One step from `u` to `v`: one of the strings is put in, or taken out whole.
+abbrev pub Step : Strings → Word → Word → Type 0
+Step S u v = Puts S u v ⊎ Puts S v u
 
--- The strings `u` and then `l` are a chain: each after the first comes from the one before it by one step.
-abbrev pub Chain : Word → List Word → Type 0
-Chain u [] = Unit {0}
-Chain u (v ∷ l) = Step u v × Chain v l
+-- The words `u` and then `l` are a chain: each after the first comes from the one before it by one step.
+abbrev pub Chain : Strings → Word → List Word → Type 0
+Chain S u [] = Unit {0}
+Chain S u (v ∷ l) = Step S u v × Chain S v l
 
--- The last of the strings `u` and then `l`.
+-- The last of the words `u` and then `l`.
 abbrev pub lastOf : Word → List Word → Word
 lastOf u [] = u
 lastOf u (v ∷ l) = lastOf v l
 
--- A chain, `u` its first string and `v` its last, joins `u` to `v`.
-pub record Joined (u v : Word) : Type 0 where
+-- A chain, `u` its first word and `v` its last, joins `u` to `v`.
+pub record JoinedBy (S : Strings) (u v : Word) : Type 0 where
   pub rest : List Word
-  pub chain : Chain u rest
+  pub chain : Chain S u rest
   pub last : lastOf u rest ≡ v
+
+-- Joined by a chain of 01: the strings are the eight.
+abbrev pub Joined : Word → Word → Type 0
+Joined u v = JoinedBy Eight u v

@@ -3,11 +3,11 @@
 --     level b a f     b_0, a_0 and the levels above   letters f        the form written out in letters
 -- Assumes nothing.
 use mathlib.Core.Path.{_≡_}
-use mathlib.Core.List.{List, [], _∷_, _++_}
+use mathlib.Core.List.{[], _∷_, _++_}
 use Prim.Native.Nat.{ℕ, zero, suc, _+_, _<_}
 use lib.ListN.{replicate}
 use Rattle.lists.specs.Copies.{copies}
-use Rattle.group.specs.Letters.{Letter, 'a, 'A, 'b, 'B, Word, inverse}
+use Rattle.group.specs.Letters.{'a, 'A, 'b, Word, inverse}
 
 -- x_k by letters: x0 is a; for k at least 1, b with k−1 letters A before it and k−1 letters a behind it.
 abbrev pub generator : ℕ → Word

@@ -4,6 +4,7 @@ pub mod Chains
 pub mod Points
 pub mod Maps
 pub mod Forms
+pub mod Presentations
 pub mod Reducing
 pub mod Products
 pub mod Limits

@@ -3,7 +3,7 @@
 --     timesGenerator s k f   x_k (bSide) or x_k⁻¹ (aSide) times f      formOf w      the reduced form of the word w
 --     timesLetter x f        the letter x times f                      exchange f    the form with its sides exchanged
 -- Assumes nothing.
-use mathlib.Core.List.{List, [], _∷_}
+use mathlib.Core.List.{[], _∷_}
 use Prim.Native.Nat.{ℕ, zero, suc, _+_}
 use Rattle.group.specs.Letters.{Letter, 'a, 'A, 'b, 'B, Word, inverseLetter}
 use Rattle.group.specs.Forms.{Side, bSide, aSide, Form, empty, level}

@@ -2,7 +2,7 @@
 -- Assumes nothing.
 use mathlib.Core.Path.{_≡_}
 use mathlib.Core.Logic.{_⊎_}
-use Prim.Native.Nat.{ℕ, zero, suc, _<_}
+use Prim.Native.Nat.{ℕ, suc, _<_}
 use Rattle.group.specs.Forms.{Side, bSide, aSide, Form, exponent}
 
 -- For each i with both a_i and b_i above 0, at least one of a_(i+1), b_(i+1) is above 0.

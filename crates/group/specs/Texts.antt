@@ -1,12 +1,12 @@
--- Words written as a text, for the worked examples and for computing in proofs. No contract and no demand cites this file.
+-- Words written as a text, for the worked examples and for computing in proofs. No demand cites this file.
 -- Assumes nothing.
 use mathlib.Core.Bool.{cond}
-use mathlib.Core.List.{List, [], _∷_}
+use mathlib.Core.List.{[], _∷_}
 use Prim.Native.Nat.{ℕ}
-use Prim.Native.Char.{Char, code}
+use Prim.Native.Char.{code}
 use Prim.Native.String.{String, [] as []ˢ, _∷_ as _∷ˢ_}
 use lib.Dec.{eqb}
-use Rattle.group.specs.Letters.{Letter, 'a, 'A, 'b, 'B, Word}
+use Rattle.group.specs.Letters.{'a, 'A, 'b, 'B, Word}
 
 -- The letter with this character code, put in front of a word; any other character is left out.
 abbrev pub withCode : ℕ → Word → Word

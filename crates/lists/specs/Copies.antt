@@ -1,5 +1,5 @@
 -- A list written several times over. The kit's `replicate` does the same for one element. Assumes nothing.
-use mathlib.Core.List.{List, [], _∷_, _++_}
+use mathlib.Core.List.{List, [], _++_}
 use Prim.Native.Nat.{ℕ, zero, suc}
 
 -- `n` times the list `s`, one behind another.
