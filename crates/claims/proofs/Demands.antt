@@ -1,7 +1,7 @@
 -- The claims of specs/Demands.antt, proved. Assumes nothing.
 use Rattle.group.proofs.Reduced.{form-reduced, form-trimmed}
 use Rattle.group.proofs.Forms.{form-map, forms↔joined, forms↔maps, the-exponents, the-form}
-use Rattle.group.proofs.Bounds.{form-sum, form-index}
+use Rattle.group.proofs.Sizes.{form-sum, form-index}
 use Rattle.claims.specs.Demands.{FormKeepsMap, EqualFormsAreJoined, EqualFormsAreOneMap}
 use Rattle.claims.specs.Demands.{OneReducedForm, OneTrimmedForm, FormIsSmall}
 

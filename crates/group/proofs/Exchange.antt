@@ -3,8 +3,8 @@
 -- letter. Assumes nothing.
 use mathlib.Core.Path.{_≡_, refl, sym, _∙_, ap, ap₂}
 use mathlib.Core.List.{[], _∷_, _++_}
-use mathlib.Core.Logic.{_⊎_, inl, inr}
-use Prim.Native.Nat.{ℕ, zero, suc, _<_}
+use mathlib.Core.Logic.{inl, inr}
+use Prim.Native.Nat.{ℕ, zero, suc}
 use native.Mathlib.Omega.{arith}
 use Rattle.lists.specs.Copies.{copies}
 use Rattle.lists.proofs.Copies.{copies-past}
@@ -12,7 +12,7 @@ use Rattle.group.specs.Letters.{Letter, Word, inverseLetter, inverse}
 use Rattle.group.specs.Chains.{Joined}
 use Rattle.group.specs.Forms.{bSide, aSide, Form, empty, level, generator, exponent, Trimmed, ascending}
 use Rattle.group.specs.Forms.{descending, letters}
-use Rattle.group.specs.Reducing.{Reduced}
+use Rattle.group.specs.Reducing.{Occurs, Reduced}
 use Rattle.group.specs.Products.{timesLetter, formOf, exchange, behindLetter}
 use Rattle.group.proofs.Congruence.{_≈_, _⟫_, ≈-path, ≈-back, ≈→joined}
 use Rattle.group.proofs.Inverses.{inverse-letter-twice, inverse-append, inverse-twice, inverse-cong, eight-pairs}
@@ -38,8 +38,7 @@ exchange-twice (level b a f) = ap (level b a) (exchange-twice f)
 exchange-reduced : (f : Form) → Reduced f → Reduced (exchange f)
 exchange-reduced f r i x y = go (r i (omega (arith, exchange-b f i)) (omega (arith, exchange-a f i)))
   where
-    go : (0 < exponent aSide f (suc i)) ⊎ (0 < exponent bSide f (suc i))
-        → (0 < exponent aSide (exchange f) (suc i)) ⊎ (0 < exponent bSide (exchange f) (suc i))
+    go : Occurs f (suc i) → Occurs (exchange f) (suc i)
     go (inl h) = inr (omega (arith, exchange-b f (suc i)))
     go (inr h) = inl (omega (arith, exchange-a f (suc i)))
 

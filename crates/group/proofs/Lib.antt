@@ -19,4 +19,4 @@ pub mod Forms
 pub mod Reducing
 pub mod ReducingEnds
 pub mod Exchange
-pub mod Bounds
+pub mod Sizes

@@ -1,31 +1,13 @@
 -- The form of a word is reduced and trimmed: a letter times a reduced, trimmed form is one. Assumes nothing.
 use mathlib.Core.List.{[], _∷_}
-use mathlib.Core.Logic.{_⊎_, inl, inr}
+use mathlib.Core.Logic.{inl, inr}
 use Prim.Native.Nat.{ℕ, zero, suc, _+_, _<_}
 use native.Mathlib.Omega.{arith}
 use Rattle.group.specs.Letters.{Letter, 'a, 'A, 'b, 'B, Word}
-use Rattle.group.specs.Forms.{Side, bSide, aSide, Form, empty, level, exponent, Trimmed}
-use Rattle.group.specs.Reducing.{Reduced}
+use Rattle.group.specs.Forms.{Side, bSide, aSide, Form, empty, level, Trimmed}
+use Rattle.group.specs.Reducing.{Occurs, Reduced}
 use Rattle.group.specs.Products.{reduceLevel, timesX0, single, timesGenerator, timesLetter, formOf}
 use Rattle.group.proofs.Exponents.{trimmed-above}
-
--- A level that keeps the clause, on levels that keep it.
-pub level-reduced : (b a : ℕ) (f : Form)
-    → (0 < a → 0 < b → (0 < exponent aSide f 0) ⊎ (0 < exponent bSide f 0)) → Reduced f → Reduced (level b a f)
-level-reduced b a f h r zero = h
-level-reduced b a f h r (suc i) = r i
-
-reduce-level-reduced : (b a : ℕ) (f : Form) → Reduced f → Reduced (reduceLevel b a f)
-reduce-level-reduced zero zero empty r = r
-reduce-level-reduced zero zero (level c d f) r = level-reduced 0 0 (level c d f) (λ x y. absurd (omega arith)) r
-reduce-level-reduced zero (suc a) f r = level-reduced 0 (suc a) f (λ x y. absurd (omega arith)) r
-reduce-level-reduced (suc b) zero f r = level-reduced (suc b) 0 f (λ x y. absurd (omega arith)) r
-reduce-level-reduced (suc b) (suc a) empty r = reduce-level-reduced b a empty r
-reduce-level-reduced (suc b) (suc a) (level zero zero f) r = reduce-level-reduced b a f (λ i. r (suc i))
-reduce-level-reduced (suc b) (suc a) (level zero (suc d) f) r =
-    level-reduced (suc b) (suc a) (level 0 (suc d) f) (λ x y. inl (omega arith)) r
-reduce-level-reduced (suc b) (suc a) (level (suc c) d f) r =
-    level-reduced (suc b) (suc a) (level (suc c) d f) (λ x y. inr (omega arith)) r
 
 -- A level that is not (0, 0) may be the last.
 level-trimmed : (b a : ℕ) (f : Form) → 0 < b + a → Trimmed f → Trimmed (level b a f)
@@ -41,6 +23,24 @@ reduce-level-trimmed (suc b) (suc a) empty t = reduce-level-trimmed b a empty t
 reduce-level-trimmed (suc b) (suc a) (level zero zero f) t = reduce-level-trimmed b a f (trimmed-above 0 0 f t)
 reduce-level-trimmed (suc b) (suc a) (level zero (suc d) f) t = t
 reduce-level-trimmed (suc b) (suc a) (level (suc c) d f) t = t
+
+-- A level that keeps the clause, on levels that keep it.
+pub level-reduced : (b a : ℕ) (f : Form)
+    → (0 < a → 0 < b → Occurs f 0) → Reduced f → Reduced (level b a f)
+level-reduced b a f h r zero = h
+level-reduced b a f h r (suc i) = r i
+
+reduce-level-reduced : (b a : ℕ) (f : Form) → Reduced f → Reduced (reduceLevel b a f)
+reduce-level-reduced zero zero empty r = r
+reduce-level-reduced zero zero (level c d f) r = level-reduced 0 0 (level c d f) (λ x y. absurd (omega arith)) r
+reduce-level-reduced zero (suc a) f r = level-reduced 0 (suc a) f (λ x y. absurd (omega arith)) r
+reduce-level-reduced (suc b) zero f r = level-reduced (suc b) 0 f (λ x y. absurd (omega arith)) r
+reduce-level-reduced (suc b) (suc a) empty r = reduce-level-reduced b a empty r
+reduce-level-reduced (suc b) (suc a) (level zero zero f) r = reduce-level-reduced b a f (λ i. r (suc i))
+reduce-level-reduced (suc b) (suc a) (level zero (suc d) f) r =
+    level-reduced (suc b) (suc a) (level 0 (suc d) f) (λ x y. inl (omega arith)) r
+reduce-level-reduced (suc b) (suc a) (level (suc c) d f) r =
+    level-reduced (suc b) (suc a) (level (suc c) d f) (λ x y. inr (omega arith)) r
 
 -- Both at once: what each product keeps.
 pub record Canonical (f : Form) : Type 0 where

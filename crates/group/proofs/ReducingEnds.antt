@@ -6,7 +6,7 @@ use Prim.Native.Nat.{ℕ, zero, suc, pred, _+_, _<_, _≤_}
 use native.Mathlib.Omega.{arith}
 use Rattle.group.specs.Forms.{Side, bSide, aSide, Form, empty, level, exponent, SameExponents, exponentSum}
 use Rattle.group.specs.Forms.{letters}
-use Rattle.group.specs.Reducing.{Reduced, Applies, ReducingStep, Steps, stay, onward}
+use Rattle.group.specs.Reducing.{Occurs, Reduced, Applies, ReducingStep, Steps, stay, onward}
 use Rattle.group.specs.Products.{formOf}
 use Rattle.group.proofs.Congruence.{_≈_, ≈-refl, ≈-sym, _⟫_, ≈→joined}
 use Rattle.group.proofs.Exponents.{above, exponent-above}
@@ -43,7 +43,7 @@ reduced-or-applies (level b a f) = go (reduced-or-applies f)
 pub reduced-no-step : (f : Form) → Reduced f → (i : ℕ) → Applies i f → ⊥
 reduced-no-step f r i t = go (r i (t .here aSide) (t .here bSide))
   where
-    go : (0 < exponent aSide f (suc i)) ⊎ (0 < exponent bSide f (suc i)) → ⊥
+    go : Occurs f (suc i) → ⊥
     go (inl h) = omega (arith, t .next aSide)
     go (inr h) = omega (arith, t .next bSide)
 

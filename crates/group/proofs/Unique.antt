@@ -3,12 +3,12 @@
 -- levels above the larger one fixes every point that begins with 0. A reduced form with such a map has (0, 0) for its
 -- first level, and that breaks the clause one level below. Assumes nothing.
 use mathlib.Core.Path.{_≡_, refl, sym, _∙_, ap, subst}
-use mathlib.Core.Logic.{_⊎_, inl, inr}
+use mathlib.Core.Logic.{inl, inr}
 use Prim.Native.Nat.{ℕ, zero, suc, _+_, _-_, _<_, _≤_}
 use native.Mathlib.Omega.{arith}
 use native.Mathlib.Decide.{decLe}
 use Rattle.group.specs.Forms.{Side, bSide, aSide, Form, empty, level, onSide, exponent, SameExponents}
-use Rattle.group.specs.Reducing.{Reduced}
+use Rattle.group.specs.Reducing.{Occurs, Reduced}
 use Rattle.group.proofs.Exponents.{same-level}
 use Rattle.group.proofs.Inner.{Inner, lower, upper, map-a, map-A, lift}
 use Rattle.group.proofs.Actions.{iter, formMap}
@@ -35,7 +35,7 @@ inner-fixes e g h t =
     (ap (λ q. iter map-a (suc e) (lift g q)) (sym back) ∙ h (r .0) ∙ sym (r .1)))
 
 -- The clause at a level with both exponents above 0 does not bear (0, 0) above it.
-clause-broken : (g : Form) → (0 < exponent aSide g 0) ⊎ (0 < exponent bSide g 0) → ((s : Side) → exponent s g 0 ≡ 0) → ⊥
+clause-broken : (g : Form) → Occurs g 0 → ((s : Side) → exponent s g 0 ≡ 0) → ⊥
 clause-broken g (inl k) z = omega (arith, z aSide)
 clause-broken g (inr k) z = omega (arith, z bSide)
 
@@ -51,7 +51,7 @@ fixes-lower (level b a g) r h s = go b a (r 0) h same (fixes-lower g (λ i. r (s
         (sym (h (zeros1 a)) ∙ form-zeros1 b a g 1 (suc a) (suc b) (omega arith) (omega arith)) in
         omega arith
 
-    go : (x y : ℕ) → (0 < y → 0 < x → (0 < exponent aSide g 0) ⊎ (0 < exponent bSide g 0))
+    go : (x y : ℕ) → (0 < y → 0 < x → Occurs g 0)
         → ((t : Inner) → formMap (level x y g) (lower t) ≡ lower t) → y ≡ x
         → (((t : Inner) → formMap g (lower t) ≡ lower t) → (u : Side) → exponent u g 0 ≡ 0)
         → (u : Side) → onSide u x y ≡ 0

@@ -45,15 +45,15 @@ timesLetter 'A f = timesGenerator aSide 0 f
 timesLetter 'b f = timesGenerator bSide 1 f
 timesLetter 'B f = timesGenerator aSide 1 f
 
--- The form of a word, built from its right end.
-abbrev pub formOf : Word → Form
-formOf [] = empty
-formOf (x ∷ w) = timesLetter x (formOf w)
-
 -- The form with its two sides exchanged.
 abbrev pub exchange : Form → Form
 exchange empty = empty
 exchange (level b a f) = level a b (exchange f)
+
+-- The form of a word, built from its right end.
+abbrev pub formOf : Word → Form
+formOf [] = empty
+formOf (x ∷ w) = timesLetter x (formOf w)
 
 -- A form times a letter, put behind: the inverse letter put in front, between two exchanges of the sides.
 abbrev pub behindLetter : Form → Letter → Form
