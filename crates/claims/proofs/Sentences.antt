@@ -4,8 +4,8 @@ use Rattle.group.proofs.Generators.{conjugate-generator}
 use Rattle.group.proofs.Presentations.{presentations-agree as agree}
 use Rattle.group.proofs.Forms.{letter-undone}
 use Rattle.group.proofs.Reducing.{step-joined, step-map}
-use Rattle.group.proofs.ReducingEnds.{stepAt, step-exists, no-step↔reduced, steps-bounded, steps-reach}
-use Rattle.group.proofs.ReducingEnds.{steps-end as same-end}
+use Rattle.group.proofs.NoStep.{stepAt, step-exists, no-step↔reduced}
+use Rattle.group.proofs.ReducingEnds.{steps-bounded, steps-reach, steps-end as same-end}
 use Rattle.group.proofs.Exchange.{form-inverse, form-behind}
 use Rattle.claims.specs.Sentences.{InverseUndoes, EndsFixed, ZerosIgnored, GeneratorsConjugate}
 use Rattle.claims.specs.Sentences.{PresentationsAgree}

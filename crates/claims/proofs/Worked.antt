@@ -11,7 +11,7 @@ use Rattle.group.proofs.Inverses.{eight-pairs}
 use Rattle.group.proofs.FreeReduction.{free}
 use Rattle.group.proofs.Reduced.{form-reduced}
 use Rattle.group.proofs.Forms.{joined-map}
-use Rattle.group.proofs.ReducingEnds.{reduced-no-step}
+use Rattle.group.proofs.NoStep.{reduced-no-step}
 use Rattle.claims.specs.Worked.{unreduced, Worked}
 
 applies-0 : Applies 0 unreduced

@@ -2,7 +2,6 @@
 -- are fixed, and the zeros behind a point's last digit make no difference. Assumes nothing.
 use mathlib.Core.Path.{_≡_, refl, sym, _∙_, ap, subst, subst₂}
 use mathlib.Core.List.{List, [], _∷_}
-use mathlib.Core.Logic.{_↔_}
 use Prim.Native.Nat.{ℕ, zero, suc}
 use native.Mathlib.Omega.{arith}
 use Rattle.group.specs.Letters.{Word}
@@ -150,6 +149,3 @@ map→act u v h p =
   where
     same : SamePoint (below1 (moveAll u (digits p))) (below1 (moveAll v (digits p)))
     same = subst₂ SamePoint (map-below1 u (digits p)) (map-below1 v (digits p)) (h (below1 (digits p)))
-
-pub maps↔acts : (u v : Word) → SameMap u v ↔ ((p : Inner) → act u p ≡ act v p)
-maps↔acts u v = (map→act u v, act→map u v)

@@ -1,7 +1,7 @@
 -- Exponents say all of a form but the levels (0, 0) at its end: trimmed forms with the same exponents are equal.
 --     above f   the levels above the first
 -- Assumes nothing.
-use mathlib.Core.Path.{_≡_, refl, sym, _∙_}
+use mathlib.Core.Path.{_≡_, refl, sym}
 use Prim.Native.Nat.{ℕ, zero, suc}
 use native.Mathlib.Omega.{arith}
 use Rattle.group.specs.Forms.{Side, bSide, aSide, Form, empty, level, exponent, SameExponents, Trimmed}
@@ -21,9 +21,6 @@ same-level f g e h k bSide zero = e
 same-level f g e h k aSide zero = h
 same-level f g e h k bSide (suc i) = k bSide i
 same-level f g e h k aSide (suc i) = k aSide i
-
-pub same-above : (f g : Form) → SameExponents f g → SameExponents (above f) (above g)
-same-above f g h = λ s i. exponent-above s f i ∙ h s (suc i) ∙ sym (exponent-above s g i)
 
 pub trimmed-above : (b a : ℕ) (f : Form) → Trimmed (level b a f) → Trimmed f
 trimmed-above b a empty t = tt

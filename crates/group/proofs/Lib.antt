@@ -17,6 +17,7 @@ pub mod Slope
 pub mod Unique
 pub mod Forms
 pub mod Reducing
+pub mod NoStep
 pub mod ReducingEnds
 pub mod Exchange
 pub mod Sizes
