@@ -1,21 +1,28 @@
--- The theorems of the group, each file after those it cites.
+-- The theorems of the group, each file after those it cites. The main ones are in Forms.
+
+-- chains as a congruence; inverses; derivations checked by free reduction
 pub mod Congruence
 pub mod Inverses
 pub mod FreeReduction
+-- the shift x_k to x_(k+1); the generators; both presentations
 pub mod Shift
 pub mod Generators
 pub mod Presentations
+-- forms by exponents and by levels; a letter times a form
 pub mod Exponents
 pub mod Levels
 pub mod Products
+pub mod Reduced
+-- maps on inner points, on digits, of joined words and of forms
 pub mod Inner
 pub mod Values
 pub mod Digits
 pub mod Actions
-pub mod Reduced
+-- uniqueness, and what follows for words
 pub mod Slope
 pub mod Unique
 pub mod Forms
+-- reducing steps; inverses; sizes
 pub mod Reducing
 pub mod NoStep
 pub mod ReducingEnds

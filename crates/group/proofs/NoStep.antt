@@ -1,5 +1,5 @@
--- No reducing step applies just where a form is reduced, and where one applies it can be taken (01, 'The reduced form').
--- Assumes nothing.
+-- No reducing step applies just where a form is reduced, and where one applies it can be taken (01, 'The reduced
+-- form'). Assumes nothing.
 use mathlib.Core.Path.{_≡_, refl}
 use mathlib.Core.Logic.{_⊎_, inl, inr, _↔_}
 use Prim.Native.Nat.{ℕ, zero, suc, pred, _<_}

@@ -1,11 +1,15 @@
 -- The definitions of the group, each file after those it cites.
+
+-- words and chains; points and maps
 pub mod Letters
 pub mod Chains
 pub mod Points
 pub mod Maps
+-- forms, the infinite presentation, reducing, products
 pub mod Forms
 pub mod Presentations
 pub mod Reducing
 pub mod Products
+-- the limit; words written as texts
 pub mod Limits
 pub mod Texts
