@@ -1,4 +1,5 @@
 -- The claims of specs/Demands.antt, proved. Assumes nothing.
+use Rattle.group.proofs.Products.{form-joined}
 use Rattle.group.proofs.Reduced.{form-reduced, form-trimmed}
 use Rattle.group.proofs.Forms.{form-map, forms↔joined, forms↔maps, the-exponents, the-form}
 use Rattle.group.proofs.Sizes.{form-sum, form-index}
@@ -6,7 +7,8 @@ use Rattle.claims.specs.Demands.{FormKeepsMap, EqualFormsAreJoined, Equa
 use Rattle.claims.specs.Demands.{OneReducedForm, OneTrimmedForm, FormIsSmall}
 
 pub form-keeps-map : FormKeepsMap
-form-keeps-map = record { reduced = form-reduced; trimmed = form-trimmed; same-map = form-map }
+form-keeps-map =
+    record { reduced = form-reduced; trimmed = form-trimmed; same-map = form-map; joined = form-joined }
 
 pub equal-forms-are-joined : EqualFormsAreJoined
 equal-forms-are-joined = forms↔joined

@@ -26,6 +26,7 @@ pub record FormKeepsMap : Type 0 where
   pub reduced : (w : Word) → Reduced (formOf w)
   pub trimmed : (w : Word) → Trimmed (formOf w)
   pub same-map : (w : Word) → SameMap (letters (formOf w)) w
+  pub joined : (w : Word) → Joined (letters (formOf w)) w
 
 -- Demand 3: two words have equal forms just when a chain joins them.
 abbrev pub EqualFormsAreJoined : Type 0

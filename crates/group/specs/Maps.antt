@@ -1,4 +1,5 @@
--- The map of a word on the dyadic points from 0 to 1 (01, 'Letters and maps'; 000, section 2.2).
+-- The map of a word on the dyadic points from 0 to 1 (01, 'Letters and maps'). The maps of a and b are the functions
+-- A(x) and B(x) of 000, section 2.2, on binary digits.
 -- A rule reads two or three leading digits, as zeros where the point has no more, and leaves the rest as it is.
 -- Most systems let the leftmost letter act first; here, as in the papers, the RIGHTMOST does.
 -- Assumes nothing.
