@@ -1,16 +1,18 @@
 -- The claims of specs/Sentences.antt, proved. Assumes nothing.
-use Rattle.group.proofs.Digits.{map-0, map-1, map-same}
+use Rattle.group.proofs.Congruence.{≈→joined}
+use Rattle.group.proofs.Digits.{map-0, map-1, map-respects}
 use Rattle.group.proofs.Generators.{conjugate-generator}
 use Rattle.group.proofs.Presentations.{presentations-agree as agree}
-use Rattle.group.proofs.Forms.{letter-undone}
+use Rattle.group.proofs.Products.{times-letter-sound}
+use Rattle.group.proofs.Theorems.{letter-undone, joined↔maps}
 use Rattle.group.proofs.Reducing.{step-joined, step-map}
-use Rattle.group.proofs.NoStep.{stepAt, step-exists, no-step↔reduced}
+use Rattle.group.proofs.NoStep.{stepAt, step-exists, reduced↔no-step}
 use Rattle.group.proofs.ReducingEnds.{steps-bounded, steps-reach, steps-end as same-end}
-use Rattle.group.proofs.Exchange.{form-inverse, form-behind}
+use Rattle.group.proofs.Exchange.{form-inverse, behind-joined, form-behind}
 use Rattle.claims.specs.Sentences.{InverseUndoes, EndsFixed, ZerosIgnored, GeneratorsConjugate}
-use Rattle.claims.specs.Sentences.{PresentationsAgree}
+use Rattle.claims.specs.Sentences.{PresentationsAgree, JoinedIsOneMap}
 use Rattle.claims.specs.Sentences.{StepKeepsElement, StepCanBeTaken, ReducedIsNoStep, StepsEnd}
-use Rattle.claims.specs.Sentences.{InverseExchanges, BehindIsInFront}
+use Rattle.claims.specs.Sentences.{LettersAtEnds, BehindIsInFront, InverseExchanges}
 
 pub inverse-undoes : InverseUndoes
 inverse-undoes = letter-undone
@@ -19,13 +21,16 @@ pub ends-fixed : EndsFixed
 ends-fixed = record { at-0 = map-0; at-1 = map-1 }
 
 pub zeros-ignored : ZerosIgnored
-zeros-ignored = map-same
+zeros-ignored = map-respects
 
 pub generators-conjugate : GeneratorsConjugate
 generators-conjugate = conjugate-generator
 
 pub presentations-agree : PresentationsAgree
 presentations-agree = agree
+
+pub joined-is-one-map : JoinedIsOneMap
+joined-is-one-map = joined↔maps
 
 pub step-keeps-element : StepKeepsElement
 step-keeps-element i f g t = (step-joined i f g t, step-map i f g t)
@@ -34,7 +39,7 @@ pub step-can-be-taken : StepCanBeTaken
 step-can-be-taken i f t = (stepAt i f, step-exists i f t)
 
 pub reduced-is-no-step : ReducedIsNoStep
-reduced-is-no-step f = (no-step↔reduced f .1, no-step↔reduced f .0)
+reduced-is-no-step = reduced↔no-step
 
 pub steps-end : StepsEnd
 steps-end =
@@ -44,8 +49,11 @@ steps-end =
       same-end = λ n f g u r. same-end u r;
     }
 
-pub inverse-exchanges : InverseExchanges
-inverse-exchanges = form-inverse
+pub letters-at-ends : LettersAtEnds
+letters-at-ends = record { in-front = λ x f. ≈→joined (times-letter-sound x f); behind = behind-joined }
 
 pub behind-is-in-front : BehindIsInFront
 behind-is-in-front = form-behind
+
+pub inverse-exchanges : InverseExchanges
+inverse-exchanges = form-inverse

@@ -1,4 +1,4 @@
--- The demands of the papers as claims. Start with Demands.
+-- The demands of the papers as claims: start with Demands.
 pub mod Demands
 pub mod Sentences
 pub mod Worked

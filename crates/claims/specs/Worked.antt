@@ -1,16 +1,34 @@
--- The rows of 01, 'Worked at the desk', that are marked P and concern forms, as one claim. A form is written level by
--- level, `level b_0 a_0 (level b_1 a_1 …)`. Assumes nothing.
+-- The rows of 01, 'Worked at the desk', that are marked P and concern forms, as one claim, and that the relators are
+-- the strings that 01 prints. Pairs (i, e) are an index and its exponent, as in 01; a form is written by its levels,
+-- `level b_0 a_0 (level b_1 a_1 …)`. Records, N, lengths and spellings come with the calls that give them.
+-- Assumes nothing.
 use mathlib.Core.Path.{_≡_}
+use mathlib.Core.List.{[], _∷_}
+use mathlib.Core.Option.{Option, none, some}
+use Prim.Native.String.{String}
+use Rattle.group.specs.Letters.{'b, Word}
 use Rattle.group.specs.Chains.{relator1, relator2}
 use Rattle.group.specs.Maps.{SameMap}
 use Rattle.group.specs.Forms.{Form, empty, level, letters}
 use Rattle.group.specs.Reducing.{Reduced, Applies}
 use Rattle.group.specs.Products.{formOf}
-use Rattle.group.specs.Texts.{word}
+use Rattle.group.specs.Texts.{wordOf}
 
--- x_2 and x_3: exponent 1 at index 2, at index 3, on the b side.
+-- The form of a word that is there.
+abbrev pub formOfSome : Option Word → Option Form
+formOfSome none = none
+formOfSome (some w) = some (formOf w)
+
+-- The text is a word, and f is the form of that word.
+abbrev pub HasForm : String → Form → Type 0
+HasForm s f = formOfSome (wordOf s) ≡ some f
+
+-- x_1, x_2 and x_3: (1,1), (2,1), (3,1) on the b side.
+abbrev pub x1 : Form
+x1 = level 0 0 (level 1 0 empty)
+
 abbrev pub x2 : Form
-x2 = level 0 0 (level 0 0 (level 1 0 empty))
+x2 = level 0 0 x1
 
 abbrev pub x3 : Form
 x3 = level 0 0 x2
@@ -23,26 +41,27 @@ unreduced = level 1 1 (level 0 0 (level 1 0 empty))
 abbrev pub deadEnd : Form
 deadEnd = level 2 2 (level 1 0 (level 0 0 (level 0 1 (level 0 0 (level 0 0 (level 1 0 empty))))))
 
+-- The rows.
 pub record Worked : Type 0 where
   -- the empty word, a word that cancels, and the first relator: the empty form
-  pub row-empty : formOf (word "") ≡ empty
-  pub row-aBbA : formOf (word "aBbA") ≡ empty
-  pub row-aBAbabAABa : formOf (word "aBAbabAABa") ≡ empty
-  -- one power of a generator
-  pub row-b : formOf (word "b") ≡ level 0 0 (level 1 0 empty)
-  pub row-Aba : formOf (word "Aba") ≡ x2
-  pub row-BAbab : formOf (word "BAbab") ≡ x3
-  pub row-AAbaa : formOf (word "AAbaa") ≡ x3
-  -- the rightmost letter acts first: b side (0,1), (2,1), and b side (0,1), (1,1)
-  pub row-ba : formOf (word "ba") ≡ level 1 0 (level 0 0 (level 1 0 empty))
-  pub row-ab : formOf (word "ab") ≡ level 1 0 (level 1 0 empty)
-  -- not reduced, already at index 0; its map is that of b, and so is the element
+  pub row-empty : HasForm "" empty
+  pub row-aBbA : HasForm "aBbA" empty
+  pub row-aBAbabAABa : HasForm "aBAbabAABa" empty
+  -- a generator
+  pub row-b : HasForm "b" x1
+  pub row-Aba : HasForm "Aba" x2
+  pub row-BAbab : HasForm "BAbab" x3
+  pub row-AAbaa : HasForm "AAbaa" x3
+  -- b side (0,1), (2,1), and b side (0,1), (1,1): the rightmost letter acts first
+  pub row-ba : HasForm "ba" (level 1 0 (level 0 0 (level 1 0 empty)))
+  pub row-ab : HasForm "ab" (level 1 0 (level 1 0 empty))
+  -- the form that is not reduced breaks the clause at index 0, and has the map of b
   pub row-unreduced : Reduced unreduced → ⊥
   pub row-unreduced-place : Applies 0 unreduced
-  pub row-unreduced-map : SameMap (letters unreduced) (word "b")
-  -- reduced, and the form of its spelling
+  pub row-unreduced-map : SameMap (letters unreduced) ('b ∷ [])
+  -- the dead end is reduced, and is the form of the word that 01 spells it by
   pub row-dead-end : Reduced deadEnd
-  pub row-dead-end-spelled : formOf (word "aabAAAAAbaaaB") ≡ deadEnd
-  -- the relators are the words that 01 prints
-  pub row-relator1 : relator1 ≡ word "aBAbabAABa"
-  pub row-relator2 : relator2 ≡ word "aBAAbaabAAABaa"
+  pub row-dead-end-word : HasForm "aabAAAAAbaaaB" deadEnd
+  -- the relators are the strings of 01
+  pub relator1-printed : wordOf "aBAbabAABa" ≡ some relator1
+  pub relator2-printed : wordOf "aBAAbaabAAABaa" ≡ some relator2

@@ -1,6 +1,6 @@
 -- Joined words have the same map, and the map of a form level by level. Assumes nothing.
 use mathlib.Core.Path.{_≡_, refl, sym, _∙_, ap}
-use mathlib.Core.List.{[], _∷_, _++_}
+use mathlib.Core.List.{[], _∷_, _++_, append-nil}
 use Prim.Native.Nat.{ℕ, zero, suc}
 use lib.ListN.{replicate}
 use Rattle.group.specs.Letters.{Letter, 'a, 'A, 'b, 'B, Word, inverse}
@@ -82,19 +82,18 @@ iter g zero p = p
 iter g (suc n) p = g (iter g n p)
 
 -- The map of a form, level by level: x0^b, the levels above behind a leading digit 1, x0^−a.
-abbrev pub formMap : Form → Inner → Inner
-formMap empty p = p
-formMap (level b a f) p = iter map-a b (lift (formMap f) (iter map-A a p))
+abbrev pub levelsMap : Form → Inner → Inner
+levelsMap empty p = p
+levelsMap (level b a f) p = iter map-a b (lift (levelsMap f) (iter map-A a p))
 
 act-power : (x : Letter) (n : ℕ) (w : Word) (p : Inner) → act (replicate n x ++ w) p ≡ iter (letterMap x) n (act w p)
 act-power x zero w p = refl
 act-power x (suc n) w p = ap (letterMap x) (act-power x n w p)
 
 act-power-alone : (x : Letter) (n : ℕ) (p : Inner) → act (replicate n x) p ≡ iter (letterMap x) n p
-act-power-alone x zero p = refl
-act-power-alone x (suc n) p = ap (letterMap x) (act-power-alone x n p)
+act-power-alone x n p = ap (λ (w : Word). act w p) (sym (append-nil (replicate n x))) ∙ act-power x n [] p
 
-act-levels : (f : Form) (p : Inner) → act (spellLevels f) p ≡ formMap f p
+act-levels : (f : Form) (p : Inner) → act (spellLevels f) p ≡ levelsMap f p
 act-levels empty p = refl
 act-levels (level b a f) p =
     act-power 'a b (σ (spellLevels f) ++ replicate a 'A) p
@@ -105,5 +104,5 @@ act-levels (level b a f) p =
     ∙ lift-cong (act-levels f) (iter map-A a p))
 
 -- The map of a form's letters.
-pub act-letters : (f : Form) (p : Inner) → act (letters f) p ≡ formMap f p
+pub act-letters : (f : Form) (p : Inner) → act (letters f) p ≡ levelsMap f p
 act-letters f p = act-cong (letters-levels f) p ∙ act-levels f p

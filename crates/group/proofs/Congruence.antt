@@ -9,6 +9,7 @@ use mathlib.Core.Logic.{inl, inr, _↔_}
 use Rattle.group.specs.Letters.{Letter, Word}
 use Rattle.group.specs.Chains.{Strings, Eight, Puts, Step, Chain, lastOf, JoinedBy, Joined}
 
+-- The least congruence on words in which the strings of R vanish.
 pub data Congruent (R : Strings) : Word → Word → Type 0 where
   ≈-refl : {u : Word} → Congruent R u u
   ≈-sym : {u v : Word} → Congruent R u v → Congruent R v u
@@ -17,6 +18,7 @@ pub data Congruent (R : Strings) : Word → Word → Type 0 where
   ≈-drop : {r : Word} → R r → (t : Word) → Congruent R (r ++ t) t
 
 infix 50 _≈_
+-- The congruence of the eight strings.
 abbrev pub _≈_ : Word → Word → Type 0
 u ≈ v = Congruent Eight u v
 
@@ -121,5 +123,6 @@ module _ {R : Strings} where
       go z [] h e = ≈-path e
       go z (y ∷ l) h e = step→≈ (h .0) ⟫ go y l (h .1) e
 
+-- For the eight strings the congruence is joining by a chain.
 pub ≈↔joined : (u v : Word) → (u ≈ v) ↔ Joined u v
 ≈↔joined u v = ((λ h. ≈→joined h), (λ j. joined→≈ j))

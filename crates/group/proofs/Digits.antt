@@ -119,11 +119,11 @@ map-0 w =
     subst (λ (x : Point). SamePoint x (below1 [])) (sym (map-below1 w []))
     (value→same (moveAll w []) [] (move-all-value w []))
 
-pub map-same : (w : Word) (x y : Point) → SamePoint x y → SamePoint (mapOf w x) (mapOf w y)
-map-same w end1 end1 h = subst₂ SamePoint (sym (map-end1 w)) (sym (map-end1 w)) tt
-map-same w end1 (below1 q) h = absurd h
-map-same w (below1 p) end1 h = absurd h
-map-same w (below1 p) (below1 q) h =
+pub map-respects : (w : Word) (x y : Point) → SamePoint x y → SamePoint (mapOf w x) (mapOf w y)
+map-respects w end1 end1 h = subst₂ SamePoint (sym (map-end1 w)) (sym (map-end1 w)) tt
+map-respects w end1 (below1 q) h = absurd h
+map-respects w (below1 p) end1 h = absurd h
+map-respects w (below1 p) (below1 q) h =
     subst₂ SamePoint (sym (map-below1 w p)) (sym (map-below1 w q))
     (value→same (moveAll w p) (moveAll w q)
     (move-all-value w p ∙ ap (onInner (act w)) (same→value p q h) ∙ sym (move-all-value w q)))

@@ -10,7 +10,7 @@ use Rattle.lists.specs.Copies.{copies}
 use Rattle.lists.proofs.Copies.{copies-past}
 use Rattle.group.specs.Letters.{Letter, Word, inverseLetter, inverse}
 use Rattle.group.specs.Chains.{Joined}
-use Rattle.group.specs.Forms.{bSide, aSide, Form, empty, level, generator, exponent, Trimmed, ascending}
+use Rattle.group.specs.Forms.{Side, bSide, aSide, Form, empty, level, generator, exponent, Trimmed, ascending}
 use Rattle.group.specs.Forms.{descending, letters}
 use Rattle.group.specs.Reducing.{Occurs, Reduced}
 use Rattle.group.specs.Products.{timesLetter, formOf, exchange, behindLetter}
@@ -18,29 +18,26 @@ use Rattle.group.proofs.Congruence.{_≈_, _⟫_, ≈-path, ≈-back, �
 use Rattle.group.proofs.Inverses.{inverse-letter-twice, inverse-append, inverse-twice, inverse-cong, eight-pairs}
 use Rattle.group.proofs.Products.{times-letter-sound, form-sound}
 use Rattle.group.proofs.Reduced.{Canonical, letter-canonical, form-canonical}
-use Rattle.group.proofs.Forms.{the-form-joined}
+use Rattle.group.proofs.Theorems.{the-form-joined}
+
+abbrev otherSide : Side → Side
+otherSide bSide = aSide
+otherSide aSide = bSide
 
 -- Exponents change sides.
-pub exchange-b : (f : Form) (i : ℕ) → exponent bSide (exchange f) i ≡ exponent aSide f i
-exchange-b empty i = refl
-exchange-b (level b a f) zero = refl
-exchange-b (level b a f) (suc i) = exchange-b f i
-
-pub exchange-a : (f : Form) (i : ℕ) → exponent aSide (exchange f) i ≡ exponent bSide f i
-exchange-a empty i = refl
-exchange-a (level b a f) zero = refl
-exchange-a (level b a f) (suc i) = exchange-a f i
-
-pub exchange-twice : (f : Form) → exchange (exchange f) ≡ f
-exchange-twice empty = refl
-exchange-twice (level b a f) = ap (level b a) (exchange-twice f)
+pub exchange-exponent : (s : Side) (f : Form) (i : ℕ) → exponent s (exchange f) i ≡ exponent (otherSide s) f i
+exchange-exponent s empty i = refl
+exchange-exponent bSide (level b a f) zero = refl
+exchange-exponent aSide (level b a f) zero = refl
+exchange-exponent s (level b a f) (suc i) = exchange-exponent s f i
 
 exchange-reduced : (f : Form) → Reduced f → Reduced (exchange f)
-exchange-reduced f r i x y = go (r i (omega (arith, exchange-b f i)) (omega (arith, exchange-a f i)))
+exchange-reduced f r i x y =
+    go (r i (omega (arith, exchange-exponent bSide f i)) (omega (arith, exchange-exponent aSide f i)))
   where
     go : Occurs f (suc i) → Occurs (exchange f) (suc i)
-    go (inl h) = inr (omega (arith, exchange-b f (suc i)))
-    go (inr h) = inl (omega (arith, exchange-a f (suc i)))
+    go (inl h) = inr (omega (arith, exchange-exponent bSide f (suc i)))
+    go (inr h) = inl (omega (arith, exchange-exponent aSide f (suc i)))
 
 exchange-trimmed : (f : Form) → Trimmed f → Trimmed (exchange f)
 exchange-trimmed empty t = tt

@@ -31,6 +31,7 @@ trimmed-occurs : (b a : ℕ) (f : Form) → Trimmed (level b a f) → SameExpone
 trimmed-occurs b a empty t h = omega (arith, h bSide 0, h aSide 0)
 trimmed-occurs b a (level c d f) t h = trimmed-occurs c d f t (λ s i. h s (suc i))
 
+-- Trimmed forms with the same exponents at every index are equal.
 pub trimmed-equal : (f g : Form) → Trimmed f → Trimmed g → SameExponents f g → f ≡ g
 trimmed-equal empty empty t u h = refl
 trimmed-equal empty (level c d g) t u h = absurd (trimmed-occurs c d g u (λ s i. sym (h s i)))

@@ -2,12 +2,21 @@
 -- letter-level derivations are checked by computing. Assumes nothing.
 use mathlib.Core.Path.{_≡_, ap}
 use mathlib.Core.List.{[], _∷_, _++_}
+use mathlib.Core.Option.{Option, none, some}
 use Prim.Native.String.{String}
 use Rattle.group.specs.Letters.{Letter, sameLetter, Word, inverseLetter}
 use Rattle.group.specs.Chains.{Strings}
-use Rattle.group.specs.Texts.{word}
+use Rattle.group.specs.Texts.{wordOf}
 use Rattle.group.proofs.Congruence.{Congruent, ≈-refl, ≈-sym, ≈-cons, ≈-drop, _⟫_, ≈-path, ≈-front, ≈-back}
 use Rattle.group.proofs.Inverses.{HasPairs}
+
+-- The word of a text that is one; the empty word of any other.
+abbrev orEmpty : Option Word → Word
+orEmpty none = []
+orEmpty (some w) = w
+
+abbrev pub word : String → Word
+word s = orEmpty (wordOf s)
 
 -- x in front of y and then w: both are deleted where y is the inverse of x.
 abbrev pushOn : (x y : Letter) → Dec (y ≡ inverseLetter x) → Word → Word

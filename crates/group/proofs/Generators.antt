@@ -36,7 +36,7 @@ pub σs-append : (k : ℕ) (u v : Word) → σs k (u ++ v) ≡ σs k u ++ σs k 
 σs-cong zero h = h
 σs-cong (suc k) h = σs-cong k (σ-cong h)
 
-σs-out : (k : ℕ) (w : Word) → σs k (σ w) ≡ σ (σs k w)
+pub σs-out : (k : ℕ) (w : Word) → σs k (σ w) ≡ σ (σs k w)
 σs-out zero w = refl
 σs-out (suc k) w = σs-out k (σ w)
 

@@ -1,4 +1,4 @@
--- The theorems of the group, each file after those it cites. The main ones are in Forms.
+-- The theorems of the group, each file after those it cites. The main ones are in Theorems.
 
 -- chains as a congruence; inverses; derivations checked by free reduction
 pub mod Congruence
@@ -21,7 +21,7 @@ pub mod Actions
 -- uniqueness, and what follows for words
 pub mod Slope
 pub mod Unique
-pub mod Forms
+pub mod Theorems
 -- reducing steps; inverses; sizes
 pub mod Reducing
 pub mod NoStep

@@ -42,9 +42,9 @@ reduced-no-step f r i t = go (r i (t .here aSide) (t .here bSide))
     go (inl h) = omega (arith, t .next aSide)
     go (inr h) = omega (arith, t .next bSide)
 
--- No step applies just where the form is reduced.
-pub no-step↔reduced : (f : Form) → ((i : ℕ) → Applies i f → ⊥) ↔ Reduced f
-no-step↔reduced f = (reduced, reduced-no-step f)
+-- A form is reduced just where no step applies.
+pub reduced↔no-step : (f : Form) → Reduced f ↔ ((i : ℕ) → Applies i f → ⊥)
+reduced↔no-step f = (reduced-no-step f, reduced)
   where
     reduced : ((i : ℕ) → Applies i f → ⊥) → Reduced f
     reduced h = go (reduced-or-applies f)

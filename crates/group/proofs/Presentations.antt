@@ -47,6 +47,7 @@ eight-vanishes r second = relator2-vanishes
 eight-vanishes r first-inverse = inverse-cong pair relator1-vanishes
 eight-vanishes r second-inverse = inverse-cong pair relator2-vanishes
 
+-- Both presentations join the same words.
 pub presentations-agree : (u v : Word) → JoinedBy Infinite u v ↔ Joined u v
 presentations-agree u v = (
   (λ j. ≈→joined (congruent-within infinite-vanishes (joined→≈ j))),

@@ -11,6 +11,7 @@ use Rattle.group.specs.Forms.{Side, bSide, aSide, Form, empty, level, le
 use Rattle.group.specs.Products.{reduceLevel, timesX0, single, timesGenerator, timesLetter, formOf}
 use Rattle.group.proofs.Congruence.{_≈_, ≈-refl, ≈-sym, ≈-cons, ≈-drop, _⟫_, ≈-path, ≈-front, ≈-back, ≈→joined}
 use Rattle.group.proofs.Shift.{σ, σ-append, σ-cong, A-past, a-past}
+use Rattle.group.proofs.Generators.{σs, σs-out}
 use Rattle.group.proofs.Levels.{spellLevel, spellLevels, level-cong, level-cancel, letters-levels}
 
 reduce-level-sound : (b a : ℕ) (f : Form) → spellLevels (reduceLevel b a f) ≈ spellLevel b a (spellLevels f)
@@ -29,11 +30,13 @@ reduce-level-sound (suc b) (suc a) (level (suc c) d f) = ≈-refl
 raise-sound : (f : Form) → spellLevels (reduceLevel 0 0 f) ≈ σ (spellLevels f)
 raise-sound f = reduce-level-sound 0 0 f ⟫ ≈-path (append-nil (σ (spellLevels f)))
 
--- x_k or its inverse, by shifts.
+-- x_0 or its inverse, and x_k or its inverse, by shifts.
+abbrev signed0 : Side → Word
+signed0 bSide = 'a ∷ []
+signed0 aSide = 'A ∷ []
+
 abbrev signed : Side → ℕ → Word
-signed bSide zero = 'a ∷ []
-signed aSide zero = 'A ∷ []
-signed s (suc k) = σ (signed s k)
+signed s k = σs k (signed0 s)
 
 x0-sound : (s : Side) (f : Form) → (signed s 0 ++ spellLevels f) ≈ spellLevels (timesX0 s f)
 x0-sound bSide empty = ≈-refl
@@ -48,7 +51,8 @@ x0-sound aSide (level (suc b) a f) =
 single-sound : (s : Side) (k : ℕ) → signed s k ≈ spellLevels (single s k)
 single-sound bSide zero = ≈-refl
 single-sound aSide zero = ≈-refl
-single-sound s (suc k) = σ-cong (single-sound s k) ⟫ ≈-sym (raise-sound (single s k))
+single-sound s (suc k) =
+    ≈-path (σs-out k (signed0 s)) ⟫ σ-cong (single-sound s k) ⟫ ≈-sym (raise-sound (single s k))
 
 -- x_(k+1) passes x_0^n as x_(k+1+n).
 past-power : (s : Side) (k n : ℕ) (t : Word)
@@ -59,13 +63,16 @@ past-power s k zero t =
 past-power s k (suc n) t =
     let e : suc k + n ≡ k + suc n = omega arith in
     a-past (signed s k) (replicate n 'a ++ t)
-    ⟫ ≈-cons 'a (past-power s (suc k) n t ⟫ ≈-path (ap (λ (j : ℕ). replicate n 'a ++ (σ (signed s j) ++ t)) e))
+    ⟫ ≈-cons 'a
+    (≈-path (ap (λ (g : Word). σ g ++ (replicate n 'a ++ t)) (sym (σs-out k (signed0 s))))
+    ⟫ past-power s (suc k) n t ⟫ ≈-path (ap (λ (j : ℕ). replicate n 'a ++ (σ (signed s j) ++ t)) e))
 
 times-sound : (s : Side) (k : ℕ) (f : Form) → (signed s k ++ spellLevels f) ≈ spellLevels (timesGenerator s k f)
 times-sound s k empty = ≈-path (append-nil (signed s k)) ⟫ single-sound s k
 times-sound s zero (level b a f) = x0-sound s (level b a f)
 times-sound s (suc k) (level b a f) =
-    past-power s k b (σ (spellLevels f) ++ replicate a 'A)
+    ≈-path (ap (λ (g : Word). g ++ spellLevels (level b a f)) (σs-out k (signed0 s)))
+    ⟫ past-power s k b (σ (spellLevels f) ++ replicate a 'A)
     ⟫ ≈-front (replicate b 'a)
     (≈-path (sym (append-assoc (σ (signed s (k + b))) (σ (spellLevels f)) (replicate a 'A)))
     ⟫ ≈-back

@@ -12,7 +12,7 @@ use Rattle.group.proofs.Congruence.{_≈_, ≈-refl, ≈-sym, _⟫_, �
 use Rattle.group.proofs.Shift.{σ}
 use Rattle.group.proofs.Exponents.{above, exponent-above}
 use Rattle.group.proofs.Levels.{spellLevel, spellLevels, level-cong, level-cancel, letters-levels}
-use Rattle.group.proofs.Forms.{joined-map}
+use Rattle.group.proofs.Theorems.{joined-map}
 
 -- A step above the first level.
 pub above-step : (i : ℕ) (f g : Form) → ReducingStep (suc i) f g → ReducingStep i (above f) (above g)

@@ -9,7 +9,7 @@ use Rattle.group.specs.Reducing.{Reduced, Applies, ReducingStep, Steps, 
 use Rattle.group.specs.Products.{formOf}
 use Rattle.group.proofs.Congruence.{_≈_, ≈-refl, ≈-sym, _⟫_, ≈→joined}
 use Rattle.group.proofs.Exponents.{above, exponent-above}
-use Rattle.group.proofs.Forms.{joined-map, the-exponents}
+use Rattle.group.proofs.Theorems.{joined-map, the-exponents}
 use Rattle.group.proofs.Reducing.{above-step, lowered-above, step-letters}
 use Rattle.group.proofs.NoStep.{reduced-or-applies, stepAt, step-exists}
 

@@ -1,16 +1,16 @@
--- The shift of words, σ: a to b and b to Aba, so that σ takes x_k to x_(k+1). It respects the congruence, and shifting
--- twice is conjugation by a. The relators of 01 say x1⁻¹x2x1 = x3 and x1⁻¹x3x1 = x4 (000, presentation 1); what σ makes
--- of them also needs x1⁻¹x4x1 = x5, which follows. Assumes nothing.
+-- The shift of words, σ: a to b and b to Aba, so that σ takes x_k to x_(k+1). It respects the congruence, and a shifted
+-- word is shifted once more by conjugation with a: σ(σ g) = A σ(g) a. The relators of 01 say x1⁻¹x2x1 = x3 and
+-- x1⁻¹x3x1 = x4 (000, presentation 1); what σ makes of them also needs x1⁻¹x4x1 = x5, which follows. Assumes nothing.
 use mathlib.Core.Path.{_≡_, refl, sym, _∙_, ap}
 use mathlib.Core.List.{[], _∷_, _++_}
 use Rattle.group.specs.Letters.{Letter, 'a, 'A, 'b, 'B, Word, inverse}
 use Rattle.group.specs.Chains.{relator1, relator2, Eight, pair-aA, pair-Aa, pair-bB, pair-Bb, first, second}
 use Rattle.group.specs.Chains.{first-inverse, second-inverse}
-use Rattle.group.specs.Texts.{word}
 use Rattle.group.proofs.Congruence.{_≈_, ≈-refl, ≈-sym, ≈-trans, ≈-cons, ≈-drop, _⟫_, ≈-path, ≈-front, ≈-back}
 use Rattle.group.proofs.Inverses.{inverse-append, inverse-cong, eight-pairs}
-use Rattle.group.proofs.FreeReduction.{free, via}
+use Rattle.group.proofs.FreeReduction.{word, free, via}
 
+-- The shift.
 abbrev pub σ : Word → Word
 σ [] = []
 σ ('a ∷ w) = 'b ∷ σ w
@@ -98,7 +98,7 @@ pub σ-cong : {u v : Word} → u ≈ v → σ u ≈ σ v
     ≈-path (σ-append (x ∷ []) u) ⟫ ≈-front (σ (x ∷ [])) (σ-cong h) ⟫ ≈-path (sym (σ-append (x ∷ []) v))
 σ-cong (≈-drop {r} e t) = ≈-path (σ-append r t) ⟫ ≈-back (σ-eight e) (σ t)
 
--- Shifting twice is conjugation by a: A passes σ(σ g) and leaves σ g.
+-- A passes σ(σ g) and leaves σ g.
 pub A-past : (g t : Word) → (σ (σ g) ++ ('A ∷ t)) ≈ ('A ∷ (σ g ++ t))
 A-past [] t = ≈-refl
 A-past ('a ∷ g) t = ≈-front (word "Aba") (A-past g t) ⟫ ≈-front (word "Ab") (≈-drop pair-aA (σ g ++ t))

@@ -6,8 +6,13 @@ use Prim.Native.Nat.{ℕ, zero, suc, _+_, _<_, _≤_}
 use native.Mathlib.Omega.{arith}
 use lib.ListN.{length}
 use Rattle.group.specs.Letters.{Letter, 'a, 'A, 'b, 'B, Word}
-use Rattle.group.specs.Forms.{Side, bSide, aSide, Form, empty, level, exponent, levels, exponentSum}
+use Rattle.group.specs.Forms.{Side, bSide, aSide, Form, empty, level, exponent, exponentSum}
 use Rattle.group.specs.Products.{reduceLevel, timesX0, single, timesGenerator, timesLetter, formOf}
+
+-- The number of levels. Every index that occurs is below it.
+abbrev pub levels : Form → ℕ
+levels empty = 0
+levels (level b a f) = suc (levels f)
 
 -- What a product adds at most: one letter, and levels up to a height.
 record Adds (height : ℕ) (f g : Form) : Type 0 where

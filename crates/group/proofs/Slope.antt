@@ -1,11 +1,11 @@
--- The points 0…01, and what a form's first level does to them: the map of a form gives b_0 − a_0, the exponent of its
--- slope at 0 (000, section 2.4.2). Powers of the map of a. Assumes nothing.
+-- The points 0…01, and what a form's first level does to them: the map of a form gives b_0 − a_0, since its slope at 0
+-- is 2^(a_0 − b_0) (000, section 2.4.2). Powers of the map of a. Assumes nothing.
 use mathlib.Core.Path.{_≡_, refl, sym, _∙_, ap}
 use Prim.Native.Nat.{ℕ, zero, suc, _+_}
 use native.Mathlib.Omega.{arith}
 use Rattle.group.specs.Forms.{Form, level}
 use Rattle.group.proofs.Inner.{Inner, half, lower, map-a, map-A, lift, A-undoes-a}
-use Rattle.group.proofs.Actions.{iter, formMap}
+use Rattle.group.proofs.Actions.{iter, levelsMap}
 
 -- The points 0^m 1.
 abbrev pub zeros1 : ℕ → Inner
@@ -45,14 +45,15 @@ iter-a-zeros1 (suc n) k j e =
     ap map-a (iter-a-zeros1 n k (n + k) refl) ∙ a-zeros1 (n + k) ∙ ap zeros1 d
 
 -- A level takes 0^(a+k) 1 to 0^(b+k) 1.
-pub form-zeros1 : (b a : ℕ) (f : Form) (k x y : ℕ) → x ≡ a + k → y ≡ b + k → formMap (level b a f) (zeros1 x) ≡ zeros1 y
+pub form-zeros1 : (b a : ℕ) (f : Form) (k x y : ℕ) → x ≡ a + k → y ≡ b + k
+    → levelsMap (level b a f) (zeros1 x) ≡ zeros1 y
 form-zeros1 b a f k x y e d =
-    ap (λ q. iter map-a b (lift (formMap f) q)) (iter-A-zeros1 a x k e)
-    ∙ ap (iter map-a b) (lift-zeros1 (formMap f) k)
+    ap (λ q. iter map-a b (lift (levelsMap f) q)) (iter-A-zeros1 a x k e)
+    ∙ ap (iter map-a b) (lift-zeros1 (levelsMap f) k)
     ∙ iter-a-zeros1 b k y d
 
--- So the map gives b − a, its slope at 0.
-pub slope : (b a c d : ℕ) (f g : Form) → ((p : Inner) → formMap (level b a f) p ≡ formMap (level c d g) p)
+-- So the map gives b − a: two levels with one map differ by one number on both sides.
+pub slope : (b a c d : ℕ) (f g : Form) → ((p : Inner) → levelsMap (level b a f) p ≡ levelsMap (level c d g) p)
     → b + d ≡ c + a
 slope b a c d f g h =
     zeros1-injective (b + d) (c + a)

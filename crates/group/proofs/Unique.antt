@@ -11,7 +11,7 @@ use Rattle.group.specs.Forms.{Side, bSide, aSide, Form, empty, level, on
 use Rattle.group.specs.Reducing.{Occurs, Reduced}
 use Rattle.group.proofs.Exponents.{same-level}
 use Rattle.group.proofs.Inner.{Inner, lower, upper, map-a, map-A, lift}
-use Rattle.group.proofs.Actions.{iter, formMap}
+use Rattle.group.proofs.Actions.{iter, levelsMap}
 use Rattle.group.proofs.Slope.{zeros1, zeros1-injective, form-zeros1, slope, iter-add, iter-undo, iter-injective}
 
 upper-injective : (p q : Inner) → upper p ≡ upper q → p ≡ q
@@ -40,7 +40,7 @@ clause-broken g (inl k) z = omega (arith, z aSide)
 clause-broken g (inr k) z = omega (arith, z bSide)
 
 -- A reduced form that fixes every 0t has (0, 0) for its first level.
-fixes-lower : (f : Form) → Reduced f → ((t : Inner) → formMap f (lower t) ≡ lower t) → (s : Side) → exponent s f 0 ≡ 0
+fixes-lower : (f : Form) → Reduced f → ((t : Inner) → levelsMap f (lower t) ≡ lower t) → (s : Side) → exponent s f 0 ≡ 0
 fixes-lower empty r h s = refl
 fixes-lower (level b a g) r h s = go b a (r 0) h same (fixes-lower g (λ i. r (suc i))) s
   where
@@ -52,8 +52,8 @@ fixes-lower (level b a g) r h s = go b a (r 0) h same (fixes-lower g (λ i. r (s
         omega arith
 
     go : (x y : ℕ) → (0 < y → 0 < x → Occurs g 0)
-        → ((t : Inner) → formMap (level x y g) (lower t) ≡ lower t) → y ≡ x
-        → (((t : Inner) → formMap g (lower t) ≡ lower t) → (u : Side) → exponent u g 0 ≡ 0)
+        → ((t : Inner) → levelsMap (level x y g) (lower t) ≡ lower t) → y ≡ x
+        → (((t : Inner) → levelsMap g (lower t) ≡ lower t) → (u : Side) → exponent u g 0 ≡ 0)
         → (u : Side) → onSide u x y ≡ 0
     go zero y c k e ih bSide = refl
     go zero y c k e ih aSide = e
@@ -63,55 +63,57 @@ fixes-lower (level b a g) r h s = go b a (r 0) h same (fixes-lower g (λ i. r (s
         absurd
         (clause-broken g (c (omega arith) (omega arith))
         (ih
-        (inner-fixes x (formMap g)
-        (subst (λ (v : ℕ). (t : Inner) → formMap (level (suc x) (suc v) g) (lower t) ≡ lower t) d k))))
+        (inner-fixes x (levelsMap g)
+        (subst (λ (v : ℕ). (t : Inner) → levelsMap (level (suc x) (suc v) g) (lower t) ≡ lower t) d k))))
 
 -- A reduced form that fixes every point has no exponent above 0.
-fixes-all : (f : Form) → Reduced f → ((p : Inner) → formMap f p ≡ p) → SameExponents f empty
+fixes-all : (f : Form) → Reduced f → ((p : Inner) → levelsMap f p ≡ p) → SameExponents f empty
 fixes-all empty r h = λ s i. refl
 fixes-all (level b a f) r h = go b a (fixes-lower (level b a f) r (λ t. h (lower t))) h (fixes-all f (λ i. r (suc i)))
   where
-    go : (x y : ℕ) → ((s : Side) → onSide s x y ≡ 0) → ((p : Inner) → formMap (level x y f) p ≡ p)
-        → (((p : Inner) → formMap f p ≡ p) → SameExponents f empty) → SameExponents (level x y f) empty
+    go : (x y : ℕ) → ((s : Side) → onSide s x y ≡ 0) → ((p : Inner) → levelsMap (level x y f) p ≡ p)
+        → (((p : Inner) → levelsMap f p ≡ p) → SameExponents f empty) → SameExponents (level x y f) empty
     go zero zero z k ih bSide zero = refl
     go zero zero z k ih aSide zero = refl
-    go zero zero z k ih s (suc i) = ih (λ p. upper-injective (formMap f p) p (k (upper p))) s i
+    go zero zero z k ih s (suc i) = ih (λ p. upper-injective (levelsMap f p) p (k (upper p))) s i
     go zero (suc y) z k ih s i = absurd (omega (arith, z aSide))
     go (suc x) y z k ih s i = absurd (omega (arith, z bSide))
 
 -- With the smaller powers at both ends cancelled.
 cancelled : (b a d c e : ℕ) (f g : Form) → c ≡ b + d → e ≡ a + d
-    → ((p : Inner) → formMap (level b a f) p ≡ formMap (level c e g) p)
-    → (q : Inner) → lift (formMap f) q ≡ iter map-a d (lift (formMap g) (iter map-A d q))
+    → ((p : Inner) → levelsMap (level b a f) p ≡ levelsMap (level c e g) p)
+    → (q : Inner) → lift (levelsMap f) q ≡ iter map-a d (lift (levelsMap g) (iter map-A d q))
 cancelled b a d c e f g x y h q =
-    iter-injective b (lift (formMap f) q) (iter map-a d (lift (formMap g) (iter map-A d q)))
-    (ap (λ p. iter map-a b (lift (formMap f) p)) (sym (iter-undo a q))
+    iter-injective b (lift (levelsMap f) q) (iter map-a d (lift (levelsMap g) (iter map-A d q)))
+    (ap (λ p. iter map-a b (lift (levelsMap f) p)) (sym (iter-undo a q))
     ∙ h (iter map-a a q)
-    ∙ ap (λ p. iter map-a c (lift (formMap g) p))
+    ∙ ap (λ p. iter map-a c (lift (levelsMap g) p))
     (iter-add map-A d a e (iter map-a a q) (omega arith) ∙ ap (iter map-A d) (iter-undo a q))
-    ∙ iter-add map-a b d c (lift (formMap g) (iter map-A d q)) x)
+    ∙ iter-add map-a b d c (lift (levelsMap g) (iter map-A d q)) x)
 
 -- Two forms whose first levels differ by d on both sides: d is 0, and the levels above agree.
 first-levels : (b a d c e : ℕ) (f g : Form) → c ≡ b + d → e ≡ a + d → Reduced (level c e g)
-    → ((p : Inner) → formMap (level b a f) p ≡ formMap (level c e g) p)
-    → (((p : Inner) → formMap f p ≡ formMap g p) → SameExponents f g)
+    → ((p : Inner) → levelsMap (level b a f) p ≡ levelsMap (level c e g) p)
+    → (((p : Inner) → levelsMap f p ≡ levelsMap g p) → SameExponents f g)
     → SameExponents (level b a f) (level c e g)
 first-levels b a zero c e f g x y r h ih =
     same-level f g (omega arith) (omega arith)
-    (ih (λ p. upper-injective (formMap f p) (formMap g p) (cancelled b a 0 c e f g x y h (upper p))))
+    (ih (λ p. upper-injective (levelsMap f p) (levelsMap g p) (cancelled b a 0 c e f g x y h (upper p))))
 first-levels b a (suc d) c e f g x y r h ih =
     absurd
     (clause-broken g (r 0 (omega arith) (omega arith))
     (fixes-lower g (λ i. r (suc i))
-    (inner-fixes d (formMap g) (λ t. sym (cancelled b a (suc d) c e f g x y h (lower t))))))
+    (inner-fixes d (levelsMap g) (λ t. sym (cancelled b a (suc d) c e f g x y h (lower t))))))
 
-pub unique-levels : (f g : Form) → Reduced f → Reduced g → ((p : Inner) → formMap f p ≡ formMap g p) → SameExponents f g
+-- Reduced forms whose levels have one map have the same exponents.
+pub unique-levels : (f g : Form) → Reduced f → Reduced g → ((p : Inner) → levelsMap f p ≡ levelsMap g p)
+    → SameExponents f g
 unique-levels empty g r q h = λ s i. sym (fixes-all g q (λ p. sym (h p)) s i)
 unique-levels (level b a f) empty r q h = fixes-all (level b a f) r h
 unique-levels (level b a f) (level c d g) r q h =
     go (slope b a c d f g h) (decLe b c) (unique-levels f g (λ i. r (suc i)) (λ i. q (suc i)))
   where
-    go : b + d ≡ c + a → Dec (b ≤ c) → (((p : Inner) → formMap f p ≡ formMap g p) → SameExponents f g)
+    go : b + d ≡ c + a → Dec (b ≤ c) → (((p : Inner) → levelsMap f p ≡ levelsMap g p) → SameExponents f g)
         → SameExponents (level b a f) (level c d g)
     go e (yes l) ih = first-levels b a (c - b) c d f g (omega arith) (omega arith) q h ih
     go e (no l) ih =

@@ -9,11 +9,11 @@ use mathlib.Core.List.{List, [], _∷_, _++_}
 use mathlib.Core.Logic.{_⊎_}
 use Rattle.group.specs.Letters.{'a, 'A, 'b, 'B, Word, inverse}
 
--- aBAbabAABa
+-- aBAbabAABa: it says x1⁻¹ x2 x1 = x3 (000, presentation 1), being a (x1⁻¹ x2 x1 x3⁻¹) A.
 abbrev pub relator1 : Word
 relator1 = 'a ∷ 'B ∷ 'A ∷ 'b ∷ 'a ∷ 'b ∷ 'A ∷ 'A ∷ 'B ∷ 'a ∷ []
 
--- aBAAbaabAAABaa
+-- aBAAbaabAAABaa: it says x1⁻¹ x3 x1 = x4.
 abbrev pub relator2 : Word
 relator2 = 'a ∷ 'B ∷ 'A ∷ 'A ∷ 'b ∷ 'a ∷ 'a ∷ 'b ∷ 'A ∷ 'A ∷ 'A ∷ 'B ∷ 'a ∷ 'a ∷ []
 

@@ -14,7 +14,8 @@ abbrev pub generator : ℕ → Word
 generator zero = 'a ∷ []
 generator (suc k) = replicate k 'A ++ ('b ∷ replicate k 'a)
 
--- The two sides of a form: the b side has the powers of the x_k, the a side those of their inverses.
+-- The two sides of a form: the b side has the powers x_k^b_k, the a side the powers x_k^−a_k. In b_k and a_k, b and a
+-- are the papers' names of exponents, not the letters.
 pub data Side : Type 0 where
   bSide aSide : Side
 
@@ -43,11 +44,6 @@ abbrev pub Trimmed : Form → Type 0
 Trimmed empty = Unit {0}
 Trimmed (level b a empty) = 0 < b + a
 Trimmed (level b a (level c d f)) = Trimmed (level c d f)
-
--- The number of levels: the highest index is one less.
-abbrev pub levels : Form → ℕ
-levels empty = 0
-levels (level b a f) = suc (levels f)
 
 -- The sum of all exponents, which is the number of the form's letters x_k and x_k⁻¹.
 abbrev pub exponentSum : Form → ℕ

@@ -2,5 +2,6 @@
 -- It is stated here and nowhere else. Assumes nothing.
 use Prim.Native.Nat.{ℕ}
 
+-- 4,096
 abbrev pub limit : ℕ
 limit = 4096

@@ -1,7 +1,8 @@
 -- The map of a word on the dyadic points from 0 to 1 (01, 'Letters and maps'). The maps of a and b are the functions
--- A(x) and B(x) of 000, section 2.2, on binary digits.
--- A rule reads two or three leading digits, as zeros where the point has no more, and leaves the rest as it is.
--- Most systems let the leftmost letter act first; here, as in the papers, the RIGHTMOST does.
+-- that 000, section 2.2, calls A(x) and B(x); here A and B are the inverses of a and b.
+--     rule-a …      the rules of a letter, on the two or three digits they read and the rest, which they leave
+--     mapOf w       the map of a word: the RIGHTMOST letter acts first, as in the papers (most systems: the leftmost)
+--     SameMap u v   u and v move every dyadic point from 0 to 1 alike
 -- Assumes nothing.
 use mathlib.Core.List.{List, [], _∷_}
 use Rattle.group.specs.Letters.{Letter, 'a, 'A, 'b, 'B, Word}
@@ -44,7 +45,7 @@ moveDigits 'B p =
     let q : List Digit = laterDigits p in
     rule-B (firstDigit p) (firstDigit q) (firstDigit (laterDigits q)) (laterDigits (laterDigits q))
 
--- The map of a letter; the ends 0 and 1 are fixed.
+-- The map of a letter. The end 1 is fixed by this definition, the end 0 by the rules.
 abbrev pub moveLetter : Letter → Point → Point
 moveLetter x (below1 p) = below1 (moveDigits x p)
 moveLetter x end1 = end1

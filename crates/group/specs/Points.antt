@@ -1,13 +1,16 @@
 -- Dyadic points of [0, 1], by their binary digits after the point, and when two are the same (01, 'Letters and maps').
+--     𝟎, 𝟏               the digits                      firstDigit, laterDigits   read past the end as zeros
+--     below1 p, end1     a point below 1; the end 1      SamePoint                 one point, though digits may differ
 -- Assumes nothing.
 use mathlib.Core.Path.{_≡_}
 use mathlib.Core.List.{List, [], _∷_}
 use Prim.Native.Nat.{ℕ, zero, suc}
 
+-- A binary digit.
 pub data Digit : Type 0 where
   𝟎 𝟏 : Digit
 
--- A dyadic point from 0 to 1: a point below 1 by its digits (0 has none above 0), or the end 1.
+-- A dyadic point from 0 to 1: a point below 1, by its digits (0 has no digits, or zeros only), or the end 1.
 pub data Point : Type 0 where
   below1 : List Digit → Point
   end1 : Point

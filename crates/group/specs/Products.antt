@@ -8,7 +8,8 @@ use Prim.Native.Nat.{ℕ, zero, suc, _+_}
 use Rattle.group.specs.Letters.{Letter, 'a, 'A, 'b, 'B, Word, inverseLetter}
 use Rattle.group.specs.Forms.{Side, bSide, aSide, Form, empty, level}
 
--- The level (b, a) put in front of a reduced form, with every reducing step at index 0 that this opens.
+-- The level (b, a) put in front of a reduced form, with every reducing step at index 0 that this opens: as long as the
+-- level above is (0, 0), one x_0 and one x_0⁻¹ are removed and that level goes. No level (0, 0) is put at the end.
 abbrev pub reduceLevel : ℕ → ℕ → Form → Form
 reduceLevel zero zero empty = empty
 reduceLevel zero zero (level c d f) = level 0 0 (level c d f)
@@ -19,7 +20,8 @@ reduceLevel (suc b) (suc a) (level zero zero f) = reduceLevel b a f
 reduceLevel (suc b) (suc a) (level zero (suc d) f) = level (suc b) (suc a) (level 0 (suc d) f)
 reduceLevel (suc b) (suc a) (level (suc c) d f) = level (suc b) (suc a) (level (suc c) d f)
 
--- x_0 or its inverse times a form: x_0⁻¹ meets an x_0, or passes every index up (x_0⁻¹ x_j = x_(j+1) x_0⁻¹).
+-- x_0 or its inverse times a form. x_0 adds one to b_0. x_0⁻¹ takes one from b_0; where b_0 is 0, it passes to the
+-- other end and raises every index on its way, since x_0⁻¹ x_j = x_(j+1) x_0⁻¹ for j above 0.
 abbrev pub timesX0 : Side → Form → Form
 timesX0 bSide empty = level 1 0 empty
 timesX0 bSide (level b a f) = reduceLevel (suc b) a f
@@ -32,7 +34,8 @@ abbrev pub single : Side → ℕ → Form
 single s zero = timesX0 s empty
 single s (suc k) = reduceLevel 0 0 (single s k)
 
--- x_k or its inverse times a form: it passes x_0^b as x_k x_0 = x_0 x_(k+1) says.
+-- x_k or its inverse times a form. Since x_j x_0 = x_0 x_(j+1), x_(k+1) passes x_0^b and is x_(k+1+b) behind it: the
+-- generator of index k + b for the levels above, whose indices count from 0 again.
 abbrev pub timesGenerator : Side → ℕ → Form → Form
 timesGenerator s k empty = single s k
 timesGenerator s zero (level b a f) = timesX0 s (level b a f)

@@ -1,1 +1,2 @@
+-- Facts about lists.
 pub mod Copies

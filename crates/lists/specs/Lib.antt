@@ -1,1 +1,2 @@
+-- Definitions on lists.
 pub mod Copies

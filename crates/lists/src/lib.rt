@@ -1,1 +1,1 @@
-// Facts about lists that several crates cite; they stand in specs/ and proofs/. No running code.
+// Facts about lists, for the crates above to cite; they stand in specs/ and proofs/. No running code.

@@ -36,6 +36,7 @@ pub unique-exponents : (f g : Form) → Reduced f → Reduced g → SameMap (let
 unique-exponents f g r q h =
     unique-levels f g r q (λ p. sym (act-letters f p) ∙ map→act (letters f) (letters g) h p ∙ act-letters g p)
 
+-- If they are trimmed too, they are equal; and so are those whose letters a chain joins.
 pub unique-form : (f g : Form) → Reduced f → Reduced g → Trimmed f → Trimmed g
     → SameMap (letters f) (letters g) → f ≡ g
 unique-form f g r q t u h = trimmed-equal f g t u (unique-exponents f g r q h)
@@ -60,7 +61,6 @@ the-form w f r t h = trimmed-equal f (formOf w) t (form-trimmed w) (the-exponent
 pub the-form-joined : (w : Word) (f : Form) → Reduced f → Trimmed f → Joined (letters f) w → f ≡ formOf w
 the-form-joined w f r t j = the-form w f r t (joined-map (letters f) w j)
 
--- Equal forms, joined words, equal maps.
 forms→≈ : (u v : Word) → formOf u ≡ formOf v → u ≈ v
 forms→≈ u v e = ≈-sym (form-sound u) ⟫ ≈-path (ap letters e) ⟫ form-sound v
 
@@ -69,11 +69,14 @@ maps→forms u v h =
     the-form v (formOf u) (form-reduced u) (form-trimmed u)
     (act→map (letters (formOf u)) v (λ p. act-cong (form-sound u) p ∙ map→act u v h p))
 
+-- Two words have equal forms just when a chain joins them.
 pub forms↔joined : (u v : Word) → (formOf u ≡ formOf v) ↔ Joined u v
 forms↔joined u v = ((λ e. ≈→joined (forms→≈ u v e)), (λ j. maps→forms u v (joined-map u v j)))
 
+-- And just when they have the same map.
 pub forms↔maps : (u v : Word) → (formOf u ≡ formOf v) ↔ SameMap u v
 forms↔maps u v = ((λ e. act→map u v (act-cong (forms→≈ u v e))), maps→forms u v)
 
+-- So a chain joins two words just when they have the same map.
 pub joined↔maps : (u v : Word) → Joined u v ↔ SameMap u v
 joined↔maps u v = (joined-map u v, (λ h. forms↔joined u v .0 (maps→forms u v h)))
