@@ -3,8 +3,8 @@ use Rattle.group.proofs.Products.{form-joined}
 use Rattle.group.proofs.Reduced.{form-reduced, form-trimmed}
 use Rattle.group.proofs.Theorems.{form-map, forms↔joined, forms↔maps, unique-exponents, the-form, the-form-joined}
 use Rattle.group.proofs.Sizes.{form-sum, form-index}
-use Rattle.claims.specs.Demands.{FormKeepsMap, EqualFormsAreJoined, EqualFormsAreOneMap}
-use Rattle.claims.specs.Demands.{ReducedFormIsUnique, TheFormOfWord, FormIsSmall}
+use Rattle.claims.specs.Demands.{FormKeepsMap, EqualFormsAreJoined, EqualFormsAreOneMap, ReducedFormIsUnique}
+use Rattle.claims.specs.Demands.{TheFormOfWord, FormIsSmall}
 
 pub form-keeps-map : FormKeepsMap
 form-keeps-map =

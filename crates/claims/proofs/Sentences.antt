@@ -10,9 +10,8 @@ use Rattle.group.proofs.NoStep.{stepAt, step-exists, reduced↔no-step}
 use Rattle.group.proofs.ReducingEnds.{steps-bounded, steps-reach, steps-end as same-end}
 use Rattle.group.proofs.Exchange.{form-inverse, behind-joined, form-behind}
 use Rattle.claims.specs.Sentences.{InverseUndoes, EndsFixed, ZerosIgnored, GeneratorsConjugate}
-use Rattle.claims.specs.Sentences.{PresentationsAgree, JoinedIsOneMap}
-use Rattle.claims.specs.Sentences.{StepKeepsElement, StepCanBeTaken, ReducedIsNoStep, StepsEnd}
-use Rattle.claims.specs.Sentences.{LettersAtEnds, BehindIsInFront, InverseExchanges}
+use Rattle.claims.specs.Sentences.{PresentationsAgree, JoinedIsOneMap, StepKeepsElement, StepCanBeTaken}
+use Rattle.claims.specs.Sentences.{ReducedIsNoStep, StepsEnd, LettersAtEnds, BehindIsInFront, InverseExchanges}
 
 pub inverse-undoes : InverseUndoes
 inverse-undoes = letter-undone

@@ -8,8 +8,8 @@ use Rattle.group.specs.Letters.{Word}
 use Rattle.group.specs.Points.{Digit, 𝟎, 𝟏, Point, below1, end1, firstDigit, laterDigits, digitAt, SamePoint}
 use Rattle.group.specs.Maps.{moveDigits, moveLetter, mapOf, SameMap}
 use Rattle.group.proofs.Inner.{Inner, half, lower, upper, letterMap, act}
-use Rattle.group.proofs.Values.{Low, nought, inside, withDigit, value, value-1, move-digits-value}
-use Rattle.group.proofs.Values.{onInner, on-inner-id, on-inner-twice, on-inner-cong}
+use Rattle.group.proofs.Values.{Low, nought, inside, withDigit, value, value-1, move-digits-value, onInner}
+use Rattle.group.proofs.Values.{on-inner-id, on-inner-twice, on-inner-cong}
 
 -- The digits that a word makes of digits.
 abbrev moveAll : Word → List Digit → List Digit

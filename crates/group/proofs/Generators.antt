@@ -7,11 +7,9 @@ use native.Mathlib.Omega.{arith}
 use lib.ListN.{replicate}
 use Rattle.lists.proofs.Copies.{replicate-past}
 use Rattle.group.specs.Letters.{'a, 'A, Word, inverse}
-use Rattle.group.specs.Chains.{pair-Aa}
-use Rattle.group.specs.Chains.{Joined}
+use Rattle.group.specs.Chains.{pair-Aa, Joined}
 use Rattle.group.specs.Forms.{generator}
-use Rattle.group.proofs.Congruence.{_≈_, ≈-refl, ≈-sym, ≈-cons, ≈-drop, _⟫_, ≈-path, ≈-front}
-use Rattle.group.proofs.Congruence.{≈-append, ≈→joined}
+use Rattle.group.proofs.Congruence.{_≈_, ≈-refl, ≈-sym, ≈-cons, ≈-drop, _⟫_, ≈-path, ≈-front, ≈-append, ≈→joined}
 use Rattle.group.proofs.Inverses.{eight-pairs, inverse-cong}
 use Rattle.group.proofs.Shift.{σ, σ-append, σ-inverse, σ-cong, A-past, a-past}
 

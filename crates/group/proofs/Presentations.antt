@@ -7,8 +7,7 @@ use Prim.Native.Nat.{suc}
 use native.Mathlib.Omega.{arith}
 use Rattle.group.specs.Letters.{'a, 'A, 'b, 'B, Word, inverse}
 use Rattle.group.specs.Chains.{Strings, JoinedBy, relator1, relator2, Eight, pair-aA, pair-Aa, pair-bB, pair-Bb}
-use Rattle.group.specs.Chains.{Joined}
-use Rattle.group.specs.Chains.{first, second, first-inverse, second-inverse}
+use Rattle.group.specs.Chains.{Joined, first, second, first-inverse, second-inverse}
 use Rattle.group.specs.Forms.{generator}
 use Rattle.group.specs.Presentations.{Infinite, pair, conjugate}
 use Rattle.group.proofs.Congruence.{Congruent, _≈_, ≈-refl, ≈-sym, ≈-trans, ≈-cons, ≈-drop, _⟫_, ≈-back}

@@ -1,6 +1,8 @@
 -- Forms x0^b0 x1^b1 … xn^bn xn^−an … x0^−a0 (000, formula 3; 01, 'The reduced form'), and their letters.
 --     generator k     x_k by letters                  exponent s f i   b_i (bSide) or a_i (aSide)
 --     level b a f     b_0, a_0 and the levels above   letters f        the form written out in letters
+--     SameExponents   equal b_i and a_i at every i    exponentSum f    the number of its x_k and x_k⁻¹
+--     Trimmed f       no level (0, 0) at the end
 -- Assumes nothing.
 use mathlib.Core.Path.{_≡_}
 use mathlib.Core.List.{[], _∷_, _++_}
