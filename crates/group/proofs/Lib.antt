@@ -13,6 +13,7 @@ pub mod Exponents
 pub mod Levels
 pub mod Products
 pub mod Reduced
+pub mod LevelProducts
 -- maps on inner points, on digits, of joined words and of forms
 pub mod Inner
 pub mod Values
@@ -28,3 +29,5 @@ pub mod NoStep
 pub mod ReducingEnds
 pub mod Exchange
 pub mod Sizes
+-- words as bytes
+pub mod Bytes

@@ -14,7 +14,7 @@ level-trimmed : (b a : ℕ) (f : Form) → 0 < b + a → Trimmed f → Trimmed (
 level-trimmed b a empty h t = h
 level-trimmed b a (level c d f) h t = t
 
-reduce-level-trimmed : (b a : ℕ) (f : Form) → Trimmed f → Trimmed (reduceLevel b a f)
+pub reduce-level-trimmed : (b a : ℕ) (f : Form) → Trimmed f → Trimmed (reduceLevel b a f)
 reduce-level-trimmed zero zero empty t = tt
 reduce-level-trimmed zero zero (level c d f) t = t
 reduce-level-trimmed zero (suc a) f t = level-trimmed 0 (suc a) f (omega arith) t

@@ -10,6 +10,7 @@ pub mod Forms
 pub mod Presentations
 pub mod Reducing
 pub mod Products
--- the limit; words written as texts
+-- the limit; words written as texts and as bytes
 pub mod Limits
 pub mod Texts
+pub mod Bytes

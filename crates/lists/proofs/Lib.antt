@@ -1,2 +1,5 @@
--- Facts about lists.
+-- Laws of lists.
 pub mod Copies
+pub mod Front
+pub mod Tables
+pub mod Writes

@@ -1,2 +1,4 @@
 -- Definitions on lists.
 pub mod Copies
+pub mod Tables
+pub mod Writes

@@ -1,0 +1,128 @@
+-- The walk down the left edges of a tree: at each turn a tree is held whose first leaf, and the trees behind it, are
+-- those of the whole. Assumes nothing.
+use mathlib.Core.Path.{_≡_, refl, sym, _∙_, subst, ap}
+use mathlib.Core.List.{List, _∷_}
+use Prim.Native.Nat.{ℕ, _+_, _≤_, _<_}
+use native.Mathlib.Omega.{arith}
+use lib.ListN.{getD, set, length, length-set}
+use Rattle.group.specs.Limits.{limit}
+use Rattle.forest.specs.Filling.{cells, room}
+use Rattle.forest.specs.Forest.{Tree, leaf, caret, leftEdges, leafExponent, treesBehind, leaves, forestLeaves}
+use Rattle.forest.specs.Cells.{Stands, StackStands}
+use Rattle.forest.specs.Leaves.{Standing, LeafRead}
+use Rattle.forest.proofs.Counting.{leaves-some}
+use Rattle.forest.proofs.Stored.{stands-below, stands-more, stack-height, stack-push}
+
+-- The tree u, in front of the trees us, is left of t in front of ts, `edges` left edges down.
+pub record Below (t : Tree) (ts : List Tree) (u : Tree) (us : List Tree) (edges : ℕ) : Type 0 where
+  pub to-edges : edges + leftEdges u ≡ leftEdges t
+  pub to-exponent : leafExponent u ≡ leafExponent t
+  pub to-behind : treesBehind u us ≡ treesBehind t ts
+  pub to-leaves : leaves u + forestLeaves us ≡ leaves t + forestLeaves ts
+
+pub record Walked (lefts rights : List ℕ) (t : Tree) (ts : List Tree) (stack : List ℕ) (code edges height : ℕ)
+    : Type 0 where
+  pub tree : Tree
+  pub behind : List Tree
+  pub stands : Stands lefts rights cells tree code
+  pub stack-stands : StackStands lefts rights cells behind stack height
+  pub below : Below t ts tree behind edges
+
+pub record Walking (lefts rights stack₀ : List ℕ) (whole low : ℕ) (stack : List ℕ) (code edges height : ℕ)
+    : Type 0 where
+  pub same : length stack ≡ length stack₀
+  pub falls : edges + code ≤ whole
+  pub walked : (t : Tree) (ts : List Tree) → Stands lefts rights cells t whole
+      → StackStands lefts rights cells ts stack₀ low → Walked lefts rights t ts stack code edges height
+
+pub walk-starts : (lefts rights stack : List ℕ) (whole low : ℕ) → Walking lefts rights stack whole low stack whole 0 low
+walk-starts lefts rights stack whole low = record {
+  same = refl;
+  falls = omega arith;
+  walked = λ t ts p s. record {
+    tree = t;
+    behind = ts;
+    stands = p;
+    stack-stands = s;
+    below = record { to-edges = omega arith; to-exponent = refl; to-behind = refl; to-leaves = refl };
+  };
+}
+
+-- What a turn asks: the code is a cell, the stack has room, and the next code is lower.
+pub record Turn (lefts : List ℕ) (code height : ℕ) : Type 0 where
+  pub code-high : code < cells
+  pub height-high : height < room
+  pub lower : getD lefts code 0 < code
+
+turn : (lefts rights stack : List ℕ) (code height : ℕ) (t : Tree) (ts : List Tree) → limit < code
+    → Stands lefts rights cells t code → StackStands lefts rights cells ts stack height
+    → leaves t + forestLeaves ts ≤ room → Turn lefts code height
+turn lefts rights stack code height (leaf n) ts p h s q = absurd (omega (arith, h .0, h .1))
+turn lefts rights stack code height (caret x y) ts p h s q = record {
+  code-high = h .1;
+  height-high = omega (arith, stack-height lefts rights cells ts stack height s, leaves-some x, leaves-some y);
+  lower = stands-below lefts rights code x (getD lefts code 0) p (h .2);
+}
+
+module _ {lefts rights stack₀ : List ℕ} {whole low : ℕ} {stack : List ℕ} {code edges height : ℕ}
+    (w : Walking lefts rights stack₀ whole low stack code edges height) where
+  -- From a caret to its left part; k is the code as an index.
+  down : (t : Tree) (ts : List Tree) (u : Tree) (us : List Tree) (k : ℕ) → k ≡ code → limit < code
+      → height < length stack → Stands lefts rights cells u code → StackStands lefts rights cells us stack height
+      → Below t ts u us edges
+      → Walked lefts rights t ts (set stack height (getD rights k 0)) (getD lefts k 0) (edges + 1) (height + 1)
+  down t ts (leaf n) us k e p q h s b = absurd (omega (arith, h .0, h .1))
+  down t ts (caret x y) us k e p q h s b = record {
+    tree = x;
+    behind = y ∷ us;
+    stands =
+        stands-more lefts rights code cells x (getD lefts k 0) (omega (arith, h .1))
+        (subst (λ (j : ℕ). Stands lefts rights code x (getD lefts j 0)) (sym e) (h .2));
+    stack-stands =
+        stack-push lefts rights cells y us stack height (getD rights k 0) q
+        (stands-more lefts rights code cells y (getD rights k 0) (omega (arith, h .1))
+        (subst (λ (j : ℕ). Stands lefts rights code y (getD rights j 0)) (sym e) (h .3)))
+        s;
+    below = record {
+      to-edges = omega (arith, b .to-edges);
+      to-exponent = b .to-exponent;
+      to-behind = b .to-behind;
+      to-leaves = omega (arith, b .to-leaves);
+    };
+  }
+
+  at-leaf : (t : Tree) (ts : List Tree) (u : Tree) (us : List Tree) → code ≤ limit → Stands lefts rights cells u code
+      → StackStands lefts rights cells us stack height → Below t ts u us edges
+      → (edges ≡ leftEdges t)
+      × (code ≡ leafExponent t)
+      × StackStands lefts rights cells (treesBehind t ts) stack height
+  at-leaf t ts (leaf n) us p h s b = (
+    omega (arith, b .to-edges),
+    h .0 ∙ b .to-exponent,
+    subst (λ (l : List Tree). StackStands lefts rights cells l stack height) (b .to-behind) s,
+  )
+  at-leaf t ts (caret x y) us p h s b = absurd (omega (arith, h .0))
+
+  pub walk-turn : Standing lefts rights stack₀ whole low → limit < code → Turn lefts code height
+  walk-turn s p =
+      let v = w .walked (s .tree) (s .behind) (s .stands) (s .stack-stands) in
+      turn lefts rights stack code height (v .tree) (v .behind) p (v .stands) (v .stack-stands)
+      (omega (arith, v .below .to-leaves, s .few))
+
+  pub walk-more : (k : ℕ) → k ≡ code → limit < code → height < length stack → getD lefts code 0 < code
+      → Walking lefts rights stack₀ whole low (set stack height (getD rights k 0)) (getD lefts k 0) (edges + 1)
+      (height + 1)
+  walk-more k e p q r = record {
+    same = length-set stack height (getD rights k 0) ∙ w .same;
+    falls =
+        let g : getD lefts k 0 ≡ getD lefts code 0 = ap (λ (j : ℕ). getD lefts j 0) e in
+        omega (arith, w .falls);
+    walked = λ t ts g s.
+        let v = w .walked t ts g s in
+        down t ts (v .tree) (v .behind) k e p q (v .stands) (v .stack-stands) (v .below);
+  }
+
+  pub walk-ends : code ≤ limit → LeafRead lefts rights stack₀ whole low stack edges code height
+  walk-ends p t ts g s =
+      let v = w .walked t ts g s in
+      at-leaf t ts (v .tree) (v .behind) p (v .stands) (v .stack-stands) (v .below)

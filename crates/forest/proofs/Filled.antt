@@ -1,0 +1,135 @@
+-- The tables at exit: what a refusal keeps, and what the engine leaves for an accepted word. Assumes nothing.
+use mathlib.Core.Path.{_≡_, refl, sym, _∙_, ap, ap₂}
+use mathlib.Core.List.{List, [], _∷_}
+use Prim.Native.Nat.{ℕ, _+_}
+use native.Mathlib.Omega.{arith}
+use lib.ListN.{length}
+use borrow.Author.Tests.{eq-eqb, ne-eqb}
+use Rattle.lists.specs.Tables.{filled}
+use Rattle.group.specs.Letters.{Letter, 'a, 'A, 'b, 'B, Word}
+use Rattle.group.specs.Forms.{Side, bSide, aSide, exponent}
+use Rattle.group.specs.Products.{formOf}
+use Rattle.group.specs.Bytes.{byteOf, bytesOf, isWord, readWord}
+use Rattle.group.proofs.Bytes.{word-read, read-length}
+use Rattle.refusals.specs.declared.Refusal.{Refusal}
+use Rattle.refusals.specs.declared.Verdict.{Verdict}
+use Rattle.refusals.specs.declared.Verdict.the-variants.{Accepted, Refused}
+use Rattle.refusals.specs.Refusals.{numberOf, placeOf}
+use Rattle.refusals.specs.Outcomes.{Outcome, accepted, refused, checked, verdictOf}
+use Rattle.forest.specs.declared.Filling.{Filling}
+use Rattle.forest.specs.declared.Filling.the-variants.{Filled, Refused as NotFilled, Unfit}
+use Rattle.forest.specs.Judging.{judged}
+use Rattle.forest.specs.Filling.{cells, room, judgedIn, fillingOf, tableAfter, FilledTables}
+use Rattle.forest.specs.Moves.{stepLetter, stepWord, Scratch}
+use Rattle.forest.specs.Leaves.{LongTables, Tabled}
+use Rattle.forest.proofs.Judged.{accepted-fit}
+
+-- On the bytes of a word the step reads that word.
+step-letter : (x : Letter) → stepLetter (byteOf x) ≡ x
+step-letter 'a = refl
+step-letter 'A = refl
+step-letter 'b = refl
+step-letter 'B = refl
+
+step-bytes : (w : Word) → stepWord (bytesOf w) ≡ w
+step-bytes [] = refl
+step-bytes (x ∷ w) = ap₂ (λ (y : Letter) (v : Word). y ∷ v) (step-letter x) (step-bytes w)
+
+step-word : (s : List ℕ) (w : Word) → readWord s ≡ isWord w → stepWord s ≡ w
+step-word s w h = ap stepWord (word-read s w h) ∙ step-bytes w
+
+-- A table filled by the step's reading of a word's bytes is filled by the word.
+as-read : (side : Side) (s : List ℕ) (w : Word) (t : List ℕ) → readWord s ≡ isWord w
+    → filled (length s + 1) (exponent side (formOf (stepWord s))) t ≡ filled (length w + 1) (exponent side (formOf w)) t
+as-read side s w t h =
+    ap₂ (λ (n : ℕ) (v : Word). filled (n + 1) (exponent side (formOf v)) t) (read-length s w h) (step-word s w h)
+
+-- An outcome by its checked form.
+checked-refused : {A : Type 0} (o : Outcome A) (n p : ℕ) → refused n p ≡ checked o → o ≡ refused n p
+checked-refused (accepted x) n p e = let z : _≡_ {A = ℕ} 0 1 = cc in absurd (omega arith)
+checked-refused (refused m q) n p e = cc
+
+checked-accepted : {A : Type 0} (o : Outcome A) → accepted 0 ≡ checked o → (x : A) × (o ≡ accepted x)
+checked-accepted (accepted x) e = (x, refl)
+checked-accepted (refused m q) e = let z : _≡_ {A = ℕ} 0 1 = cc in absurd (omega arith)
+
+fit-judged : (word b a lefts rights stack : List ℕ) → length lefts ≡ cells → length rights ≡ cells → length stack ≡ room
+    → judgedIn word b a lefts rights stack ≡ judged word (length b) (length a)
+fit-judged word b a lefts rights stack p q r =
+    simp (eq-eqb (length lefts) cells p, eq-eqb (length rights) cells q, eq-eqb (length stack) room r)
+
+module _ {word b a lefts rights stack : List ℕ} where
+  -- On a refusal all that was lent is kept.
+  kept : (r : Filling) (n p : ℕ) → judgedIn word b a lefts rights stack ≡ refused n p → fillingOf r ≡ refused n p
+      → FilledTables word b a lefts rights stack b a lefts rights stack r
+  kept r n p e f = record {
+    result = f ∙ sym (ap checked e);
+    b-table = sym (ap (λ (o : Outcome Word). tableAfter bSide o b) e);
+    a-table = sym (ap (λ (o : Outcome Word). tableAfter aSide o a) e);
+    scratch-kept = λ number place g. (refl, refl, refl);
+  }
+
+  -- Scratch of other sizes.
+  pub unfit-lefts : (length lefts ≡ cells → ⊥) → FilledTables word b a lefts rights stack b a lefts rights stack Unfit
+  unfit-lefts p = kept Unfit 0 0 (simp (ne-eqb (length lefts) cells p)) refl
+
+  pub unfit-rights : length lefts ≡ cells → (length rights ≡ cells → ⊥)
+      → FilledTables word b a lefts rights stack b a lefts rights stack Unfit
+  unfit-rights p q = kept Unfit 0 0 (simp (eq-eqb (length lefts) cells p, ne-eqb (length rights) cells q)) refl
+
+  pub unfit-stack : length lefts ≡ cells → length rights ≡ cells → (length stack ≡ room → ⊥)
+      → FilledTables word b a lefts rights stack b a lefts rights stack Unfit
+  unfit-stack p q r =
+      kept Unfit 0 0
+      (simp (eq-eqb (length lefts) cells p, eq-eqb (length rights) cells q, ne-eqb (length stack) room r))
+      refl
+
+  module _ (p : length lefts ≡ cells) (q : length rights ≡ cells) (r : length stack ≡ room) where
+    -- Where the word or the tables are refused.
+    pub word-refused : (v : Verdict) (x : Refusal) → v ≡ Refused x
+        → verdictOf v ≡ checked (judged word (length b) (length a))
+        → FilledTables word b a lefts rights stack b a lefts rights stack (NotFilled x)
+    word-refused v x e f =
+        kept (NotFilled x) (numberOf x) (placeOf x)
+        (fit-judged word b a lefts rights stack p q r
+        ∙ checked-refused (judged word (length b) (length a)) _ _ (sym (ap verdictOf e) ∙ f))
+        refl
+
+    -- Where they are accepted: what the engine asks.
+    pub word-accepted : (v : Verdict) → v ≡ Accepted → verdictOf v ≡ checked (judged word (length b) (length a))
+        → Scratch word lefts rights stack × LongTables word b a
+    word-accepted v e f = go (checked-accepted (judged word (length b) (length a)) (sym (ap verdictOf e) ∙ f))
+      where
+        go : (w : Word) × (judged word (length b) (length a) ≡ accepted w)
+            → Scratch word lefts rights stack × LongTables word b a
+        go (w, g) =
+            let fit = accepted-fit word (length b) (length a) w g in (
+              record { word-length = fit .short; lefts-length = p; rights-length = q; stack-length = r },
+              record { b-long = fit .b-long; a-long = fit .a-long },
+            )
+
+    -- What the engine leaves.
+    pub tables-filled : {b′ a′ lefts′ rights′ stack′ : List ℕ} (v : Verdict) → v ≡ Accepted
+        → verdictOf v ≡ checked (judged word (length b) (length a)) → Tabled word b a b′ a′
+        → FilledTables word b a lefts rights stack b′ a′ lefts′ rights′ stack′ Filled
+    tables-filled {b′} {a′} {lefts′} {rights′} {stack′} v e f t =
+        go (checked-accepted (judged word (length b) (length a)) (sym (ap verdictOf e) ∙ f))
+      where
+        go : (w : Word) × (judged word (length b) (length a) ≡ accepted w)
+            → FilledTables word b a lefts rights stack b′ a′ lefts′ rights′ stack′ Filled
+        go (w, g) =
+            let fit = accepted-fit word (length b) (length a) w g in
+            let o : judgedIn word b a lefts rights stack ≡ accepted w =
+            fit-judged word b a lefts rights stack p q r ∙ g in
+            record {
+              result = sym (ap checked o);
+              b-table =
+                  t .b-table
+                  ∙ as-read bSide word w b (fit .reads)
+                  ∙ sym (ap (λ (u : Outcome Word). tableAfter bSide u b) o);
+              a-table =
+                  t .a-table
+                  ∙ as-read aSide word w a (fit .reads)
+                  ∙ sym (ap (λ (u : Outcome Word). tableAfter aSide u a) o);
+              scratch-kept = λ number place h. let z : _≡_ {A = ℕ} 0 1 = cc in absurd (omega arith);
+            }

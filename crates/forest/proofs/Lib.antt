@@ -1,0 +1,21 @@
+-- Laws of the engine.
+
+-- the model: rows are forms, no reducing step applies in the row of a word, leaves are levels
+pub mod Levels
+pub mod Irreducible
+pub mod ReadOff
+pub mod Counting
+-- the row as it is stored, and the loop over the letters
+pub mod Stored
+pub mod Joining
+pub mod Moving
+pub mod Running
+-- the leaves read off
+pub mod Descent
+pub mod Entries
+pub mod Piled
+pub mod Emitting
+-- the judgement, and the tables at exit
+pub mod Scanning
+pub mod Judged
+pub mod Filled

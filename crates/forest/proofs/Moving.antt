@@ -1,0 +1,100 @@
+-- The four letters on the stored row. Assumes nothing.
+use mathlib.Core.Path.{_≡_, subst}
+use mathlib.Core.List.{List, [], _∷_}
+use Prim.Native.Nat.{ℕ, _+_, _<_}
+use native.Mathlib.Omega.{arith}
+use lib.ListN.{getD, set, length}
+use borrow.Author.Tests.{ne-eqb}
+use Rattle.group.specs.Letters.{Letter, 'a, 'A, 'b, 'B}
+use Rattle.forest.specs.declared.row.State.{State}
+use Rattle.forest.specs.Forest.{Tree, rightPart, firstTree, laterTrees, Row, row, moveRow}
+use Rattle.forest.specs.Cells.{Stands, StackStands, LeftCode, RightCode, Popped, Made}
+use Rattle.forest.specs.Moves.{stepLetter, Held, RaisableRow, Moved}
+use Rattle.forest.proofs.Stored.{stack-push}
+
+-- What keeps each tree keeps a stack of them.
+stack-keeps : (lefts rights lefts′ rights′ : List ℕ) (used used′ : ℕ)
+    → ((x : Tree) (code : ℕ) → Stands lefts rights used x code → Stands lefts′ rights′ used′ x code)
+    → (ts : List Tree) (stack : List ℕ) (height : ℕ)
+    → StackStands lefts rights used ts stack height → StackStands lefts′ rights′ used′ ts stack height
+stack-keeps lefts rights lefts′ rights′ used used′ g [] stack height s = s
+stack-keeps lefts rights lefts′ rights′ used used′ g (t ∷ ts) stack height (top, e, h, s) =
+    (top, e, g t (getD stack top 0) h, stack-keeps lefts rights lefts′ rights′ used used′ g ts stack top s)
+
+module _ (lefts rights stack lefts′ rights′ : List ℕ) (s : State) (used tree top height : ℕ) where
+  -- The letter a: trees were joined, then one was taken from the stack.
+  pub joined-first : Popped stack (s .height) top height
+      → Made lefts rights (s .used) (s .first) (s .second) lefts′ rights′ used tree
+      → Moved 'a lefts rights stack s lefts′ rights′ stack
+      (record { used = used; height = height; first = tree; second = top })
+  joined-first p m = record { low = m .low; high = m .high; moves = moves }
+    where
+      moves : (r : Row) → RaisableRow r → Held lefts rights stack s r
+          → Held lefts′ rights′ stack (record { used = used; height = height; first = tree; second = top })
+          (moveRow 'a r)
+      moves (row x y ts) l (h, k, t) =
+          let q = p lefts rights (s .used) ts t in (
+            m .makes x y h k,
+            m .keeps (firstTree ts) top (q .0),
+            stack-keeps lefts rights lefts′ rights′ (s .used) used (m .keeps) (laterTrees ts) stack height (q .1),
+          )
+
+  -- The letter b.
+  pub joined-second : Popped stack (s .height) top height
+      → Made lefts rights (s .used) (s .second) top lefts′ rights′ used tree
+      → Moved 'b lefts rights stack s lefts′ rights′ stack
+      (record { used = used; height = height; first = s .first; second = tree })
+  joined-second p m = record { low = m .low; high = m .high; moves = moves }
+    where
+      moves : (r : Row) → RaisableRow r → Held lefts rights stack s r
+          → Held lefts′ rights′ stack (record { used = used; height = height; first = s .first; second = tree })
+          (moveRow 'b r)
+      moves (row x y ts) l (h, k, t) =
+          let q = p lefts rights (s .used) ts t in (
+            m .keeps x (s .first) h,
+            m .makes y (firstTree ts) k (q .0),
+            stack-keeps lefts rights lefts′ rights′ (s .used) used (m .keeps) (laterTrees ts) stack height (q .1),
+          )
+
+module _ (lefts rights stack : List ℕ) (s : State) (left right : ℕ) (space : s .height < length stack) where
+  -- The letter A: the second tree was pushed, and the first parted.
+  pub parted-first : LeftCode lefts (s .first) left → RightCode rights (s .first) right
+      → Moved 'A lefts rights stack s lefts rights (set stack (s .height) (s .second))
+      (record { used = s .used; height = s .height + 1; first = left; second = right })
+  parted-first p q = record { low = omega arith; high = omega arith; moves = moves }
+    where
+      moves : (r : Row) → RaisableRow r → Held lefts rights stack s r
+          → Held lefts rights (set stack (s .height) (s .second))
+          (record { used = s .used; height = s .height + 1; first = left; second = right })
+          (moveRow 'A r)
+      moves (row x y ts) l (h, k, t) = (
+        p rights (s .used) x (l .0) h,
+        q lefts (s .used) x h,
+        stack-push lefts rights (s .used) y ts stack (s .height) (s .second) space k t,
+      )
+
+  -- The letter B.
+  pub parted-second : LeftCode lefts (s .second) left → RightCode rights (s .second) right
+      → Moved 'B lefts rights stack s lefts rights (set stack (s .height) right)
+      (record { used = s .used; height = s .height + 1; first = s .first; second = left })
+  parted-second p q = record { low = omega arith; high = omega arith; moves = moves }
+    where
+      moves : (r : Row) → RaisableRow r → Held lefts rights stack s r
+          → Held lefts rights (set stack (s .height) right)
+          (record { used = s .used; height = s .height + 1; first = s .first; second = left })
+          (moveRow 'B r)
+      moves (row x y ts) l (h, k, t) = (
+        h,
+        p rights (s .used) y (l .1) k,
+        stack-push lefts rights (s .used) (rightPart y) ts stack (s .height) right space (q lefts (s .used) y k) t,
+      )
+
+-- The same letter by another name.
+pub as-letter : {l m : Letter} {lefts rights stack lefts′ rights′ stack′ : List ℕ} {s s′ : State} → l ≡ m
+    → Moved l lefts rights stack s lefts′ rights′ stack′ s′ → Moved m lefts rights stack s lefts′ rights′ stack′ s′
+as-letter {l} {m} {lefts} {rights} {stack} {lefts′} {rights′} {stack′} {s} {s′} e h =
+    subst (λ (k : Letter). Moved k lefts rights stack s lefts′ rights′ stack′ s′) e h
+
+-- The last of the step's four ways.
+pub last-letter : (c : ℕ) → (c ≡ 97 → ⊥) → (c ≡ 65 → ⊥) → (c ≡ 98 → ⊥) → 'B ≡ stepLetter c
+last-letter c p q r = simp (ne-eqb c 97 p, ne-eqb c 65 q, ne-eqb c 98 r)

@@ -1,0 +1,92 @@
+-- Stored trees: what using more cells, taking from the stack, pushing and parting keep and make. Assumes nothing.
+use mathlib.Core.Path.{_≡_, refl, sym, subst}
+use mathlib.Core.List.{List, [], _∷_}
+use Prim.Native.Nat.{ℕ, _+_, _-_, _≤_, _<_}
+use native.Mathlib.Omega.{arith}
+use lib.ListN.{getD, set, length}
+use lib.Seq.{getD-set-same}
+use borrow.Author.Needs.{read-below}
+use Rattle.group.specs.Limits.{limit}
+use Rattle.forest.specs.Forest.{Tree, leaf, caret, forestLeaves}
+use Rattle.forest.specs.Cells.{Stands, StackStands, LeftCode, RightCode, Popped}
+use Rattle.forest.proofs.Counting.{leaves-some}
+
+module _ (lefts rights : List ℕ) where
+  -- The code of a stored tree is below the next cell, and it stays stored as cells are used.
+  pub stands-below : (used : ℕ) (t : Tree) (code : ℕ) → limit < used → Stands lefts rights used t code → code < used
+  stands-below used (leaf n) code p h = omega arith
+  stands-below used (caret x y) code p h = h .1
+
+  pub stands-more : (used used′ : ℕ) (t : Tree) (code : ℕ) → used ≤ used′ → Stands lefts rights used t code
+      → Stands lefts rights used′ t code
+  stands-more used used′ (leaf n) code p h = h
+  stands-more used used′ (caret x y) code p h = (h .0, omega arith, h .2, h .3)
+
+  pub stack-more : (used used′ : ℕ) (ts : List Tree) (stack : List ℕ) (height : ℕ) → used ≤ used′
+      → StackStands lefts rights used ts stack height → StackStands lefts rights used′ ts stack height
+  stack-more used used′ [] stack height p s = s
+  stack-more used used′ (t ∷ ts) stack height p (top, e, h, s) =
+      (top, e, stands-more used used′ t (getD stack top 0) p h, stack-more used used′ ts stack top p s)
+
+  -- The height of the stack is at most the number of leaves in it.
+  pub stack-height : (used : ℕ) (ts : List Tree) (stack : List ℕ) (height : ℕ)
+      → StackStands lefts rights used ts stack height → height ≤ forestLeaves ts
+  stack-height used [] stack height s = omega arith
+  stack-height used (t ∷ ts) stack height (top, e, h, s) =
+      omega (arith, leaves-some t, stack-height used ts stack top s)
+
+  -- A store to the stack at or above the height changes nothing below it.
+  stack-kept : (used : ℕ) (ts : List Tree) (stack : List ℕ) (at v height : ℕ) → height ≤ at
+      → StackStands lefts rights used ts stack height → StackStands lefts rights used ts (set stack at v) height
+  stack-kept used [] stack at v height p s = s
+  stack-kept used (t ∷ ts) stack at v height p (top, e, h, s) = (
+    top,
+    e,
+    subst (Stands lefts rights used t) (sym (read-below ℕ stack at top v 0 (getD stack top 0) (omega arith) refl)) h,
+    stack-kept used ts stack at v top (omega arith) s,
+  )
+
+  pub stack-push : (used : ℕ) (t : Tree) (ts : List Tree) (stack : List ℕ) (height code : ℕ) → height < length stack
+      → Stands lefts rights used t code → StackStands lefts rights used ts stack height
+      → StackStands lefts rights used (t ∷ ts) (set stack height code) (height + 1)
+  stack-push used t ts stack height code p h s = (
+    height,
+    refl,
+    subst (Stands lefts rights used t) (sym (getD-set-same stack height code 0 p)) h,
+    stack-kept used ts stack height code height (omega arith) s,
+  )
+
+-- The first tree is taken from the stack, or a leaf where the stack is empty.
+pub pop-none : (stack : List ℕ) (height : ℕ) → height ≡ 0 → Popped stack height 0 0
+pop-none stack height e lefts rights used [] s = ((refl, omega arith), refl)
+pop-none stack height e lefts rights used (t ∷ ts) s = absurd (omega (arith, s .1))
+
+pub pop-some : (stack : List ℕ) (height : ℕ) → (height ≡ 0 → ⊥)
+    → Popped stack height (getD stack (height - 1) 0) (height - 1)
+pop-some stack height some lefts rights used [] s = absurd (some s)
+pop-some stack height some lefts rights used (t ∷ ts) (top, e, h, s) =
+    let c : top ≡ height - 1 = omega arith in (
+      subst (λ (j : ℕ). Stands lefts rights used t (getD stack j 0)) c h,
+      subst (λ (j : ℕ). StackStands lefts rights used ts stack j) c s,
+    )
+
+-- The parts of a tree; k is the code as an index.
+pub left-leaf : (lefts : List ℕ) (code : ℕ) → code ≤ limit → LeftCode lefts code (code + 1)
+left-leaf lefts code p rights used (leaf n) l h = (omega (arith, h .0), omega arith)
+left-leaf lefts code p rights used (caret x y) l h = absurd (omega (arith, h .0))
+
+pub left-caret : (lefts : List ℕ) (code k : ℕ) → limit < code → k ≡ code → LeftCode lefts code (getD lefts k 0)
+left-caret lefts code k p e rights used (leaf n) l h = absurd (omega (arith, h .0, h .1))
+left-caret lefts code k p e rights used (caret x y) l h =
+    stands-more lefts rights code used x (getD lefts k 0) (omega (arith, h .1))
+    (subst (λ (j : ℕ). Stands lefts rights code x (getD lefts j 0)) (sym e) (h .2))
+
+pub right-leaf : (rights : List ℕ) (code : ℕ) → code ≤ limit → RightCode rights code 0
+right-leaf rights code p lefts used (leaf n) h = (refl, omega arith)
+right-leaf rights code p lefts used (caret x y) h = absurd (omega (arith, h .0))
+
+pub right-caret : (rights : List ℕ) (code k : ℕ) → limit < code → k ≡ code → RightCode rights code (getD rights k 0)
+right-caret rights code k p e lefts used (leaf n) h = absurd (omega (arith, h .0, h .1))
+right-caret rights code k p e lefts used (caret x y) h =
+    stands-more lefts rights code used y (getD rights k 0) (omega (arith, h .1))
+    (subst (λ (j : ℕ). Stands lefts rights code y (getD rights j 0)) (sym e) (h .3))

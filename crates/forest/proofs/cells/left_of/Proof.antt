@@ -1,0 +1,32 @@
+-- `cells::left_of` meets its contract.
+-- Assumes nothing.
+use borrow.Author.Needs.{needs}
+use Rattle.forest.proofs.Stored.{left-leaf, left-caret}
+use Rattle.forest.proofs.cells.left_of.Statement.{statement}
+use Rattle.forest.proofs.cells.left_of.Tie as tie
+
+add-result : tie.Need-add-result
+add-result c = search needs
+
+returns : tie.Need-returns
+returns c = let g = c .before .before .args in left-leaf (g .lefts .now) (g .tree) (c .if1 .taken)
+
+wide-requires : tie.Need-wide-requires
+wide-requires c κs = search needs
+
+mul-result : tie.Need-mul-result
+mul-result c = search needs
+
+shared-slice-read-result : tie.Need-shared-slice-read-result
+shared-slice-read-result c = search needs
+
+returns-2 : tie.Need-returns-2
+returns-2 c =
+    let g = c .before .before .before .before .args in
+    let k = c .before .wide in
+    left-caret (g .lefts .now) (g .tree) (k .result) (c .before .before .if1 .left) (k .ensures)
+
+pub left-of-spec : {M : Type 1} → statement M
+left-of-spec =
+    tie.close
+    (tie.spec add-result returns wide-requires mul-result shared-slice-read-result returns-2)

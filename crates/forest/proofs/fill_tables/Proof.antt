@@ -1,0 +1,82 @@
+-- `fill_tables` meets its contract: what is refused is kept, and the engine fills the tables of an accepted word.
+-- Assumes nothing.
+use borrow.Author.Needs.{needs}
+use Rattle.forest.proofs.Filled.{unfit-lefts, unfit-rights, unfit-stack}
+use Rattle.forest.proofs.Filled.{word-refused, word-accepted, tables-filled}
+use Rattle.forest.proofs.fill_tables.Statement.{statement}
+use Rattle.forest.proofs.fill_tables.Tie as tie
+
+returns : tie.Need-returns
+returns c = unfit-lefts (c .if1 .taken)
+
+returns-2 : tie.Need-returns-2
+returns-2 c = unfit-rights (c .before .if1 .left) (c .if2 .taken)
+
+returns-3 : tie.Need-returns-3
+returns-3 c = unfit-stack (c .before .before .if1 .left) (c .before .if2 .left) (c .if3 .taken)
+
+judge-requires : tie.Need-judge-requires
+judge-requires c κs = search needs
+
+enum-known-v : tie.Need-enum-known-v
+enum-known-v c = search needs
+
+returns-4 : tie.Need-returns-4
+returns-4 c =
+    let judged = c .before .before .before .judge in
+    let sizes = c .before .before .before .before in
+    word-refused (sizes .before .before .if1 .left) (sizes .before .if2 .left) (sizes .if3 .left) (judged .result)
+    (c .before .v .given .0 .0) (c .before .v .given .1) (judged .ensures)
+
+enum-told : tie.Need-enum-told
+enum-told c = search needs
+
+fill-requires : tie.Need-fill-requires
+fill-requires c κs =
+    let judged = c .before .before .before .before .before .before .before .judge in
+    let sizes = c .before .before .before .before .before .before .before .before in
+    word-accepted (sizes .before .before .if1 .left) (sizes .before .if2 .left) (sizes .if3 .left) (judged .result)
+    (c .before .before .before .before .before .enum-told .given .1) (judged .ensures)
+
+same-length : tie.Need-same-length
+same-length c = search needs
+
+same-length-2 : tie.Need-same-length-2
+same-length-2 c = search needs
+
+same-length-3 : tie.Need-same-length-3
+same-length-3 c = search needs
+
+same-length-4 : tie.Need-same-length-4
+same-length-4 c = search needs
+
+same-length-5 : tie.Need-same-length-5
+same-length-5 c = search needs
+
+returns-5 : tie.Need-returns-5
+returns-5 c =
+    let call = c .before .before .before .before .before .before .before .before .before .before in
+    let told = call .before .before .before .before .before .before in
+    let judged = told .before .before .judge in
+    let sizes = told .before .before .before in
+    tables-filled (sizes .before .before .if1 .left) (sizes .before .if2 .left) (sizes .if3 .left) (judged .result)
+    (told .enum-told .given .1) (judged .ensures) (call .fill .ensures)
+
+pub fill-tables-spec : {M : Type 1} → statement M
+fill-tables-spec =
+    tie.close
+    (tie.spec
+    returns
+    returns-2
+    returns-3
+    judge-requires
+    enum-known-v
+    returns-4
+    enum-told
+    fill-requires
+    same-length
+    same-length-2
+    same-length-3
+    same-length-4
+    same-length-5
+    returns-5)

@@ -1,0 +1,96 @@
+-- `leaves::descend` meets its contract: the walk of `Descent`; the code falls in each turn.
+-- Assumes nothing.
+use mathlib.Core.Path.{_≡_, ap}
+use Prim.Native.Nat.{ℕ}
+use native.Mathlib.Omega.{arith}
+use lib.ListN.{getD}
+use Rattle.forest.proofs.Descent.{Walking, Turn, walk-starts, walk-turn, walk-more, walk-ends}
+use Rattle.forest.proofs.leaves.descend.Statement.{statement}
+use Rattle.forest.proofs.leaves.descend.Tie as tie
+
+abbrev Inv-loop : tie.InvT-loop
+Inv-loop lefts rights stack₀ tree low code₀ edges₀ height₀ stack code edges height =
+    Walking lefts rights stack₀ tree low stack code edges height
+
+abbrev μ-loop : tie.MeasureT-loop
+μ-loop lefts rights stack₀ tree low code₀ edges₀ height₀ stack code edges height = code
+
+-- What a turn may use, at its start.
+turn : (c : tie.In-loop Inv-loop μ-loop)
+    → Turn (c .before .before .before .before .before .args .lefts .now) (c .before .loop .code)
+    (c .before .loop .height)
+turn c = walk-turn (c .before .loop .inv) (c .before .before .before .before .before .pre) (c .loop-test .taken)
+
+loop-holds : tie.Need-loop-holds Inv-loop μ-loop
+loop-holds c =
+    let g = c .before .before .before .args in
+    walk-starts (g .lefts .now) (g .rights .now) (g .stack .now) (g .tree) (g .low)
+
+wide-requires : tie.Need-wide-requires Inv-loop μ-loop
+wide-requires c κs = tt
+
+mul-stack : tie.Need-mul-stack Inv-loop μ-loop
+mul-stack c = omega arith
+
+shared-slice-read-stack : tie.Need-shared-slice-read-stack Inv-loop μ-loop
+shared-slice-read-stack c = omega (arith, turn (c .before .before))
+
+mul-stack-2 : tie.Need-mul-stack-2 Inv-loop μ-loop
+mul-stack-2 c = omega (arith, turn (c .before .before))
+
+slice-write-stack : tie.Need-slice-write-stack Inv-loop μ-loop
+slice-write-stack c = omega (arith, turn (c .before .before))
+
+add-height : tie.Need-add-height Inv-loop μ-loop
+add-height c = omega (arith, turn (c .before .before))
+
+mul-code : tie.Need-mul-code Inv-loop μ-loop
+mul-code c = omega (arith, turn (c .before .before))
+
+shared-slice-read-code : tie.Need-shared-slice-read-code Inv-loop μ-loop
+shared-slice-read-code c = omega (arith, turn (c .before .before .before))
+
+add-edges : tie.Need-add-edges Inv-loop μ-loop
+add-edges c = omega (arith, turn (c .before .before .before))
+
+loop-less : tie.Need-loop-less Inv-loop μ-loop
+loop-less c =
+    let lefts = c .before .before .before .before .before .before .before .before .args .lefts .now in
+    let at = c .before .before .before .before .loop .code in
+    let k = c .before .before .wide in
+    let same : getD lefts (k .result) 0 ≡ getD lefts at 0 = ap (λ (j : ℕ). getD lefts j 0) (k .ensures) in
+    omega (arith, turn (c .before .before .before), same)
+
+loop-again : tie.Need-loop-again Inv-loop μ-loop
+loop-again c =
+    let at = c .before .before .before in
+    let k = c .before .before .wide in
+    walk-more (at .before .loop .inv) (k .result) (k .ensures) (at .loop-test .taken) (omega (arith, turn at))
+    (turn at .lower)
+
+same-length : tie.Need-same-length Inv-loop μ-loop
+same-length c = c .before .loop .inv .same
+
+returns : tie.Need-returns Inv-loop μ-loop
+returns c = walk-ends (c .before .loop .inv) (c .loop-test .left)
+
+pub descend-spec : {M : Type 1} → statement M
+descend-spec =
+    tie.close
+    (tie.spec
+    Inv-loop
+    μ-loop
+    loop-holds
+    wide-requires
+    mul-stack
+    shared-slice-read-stack
+    mul-stack-2
+    slice-write-stack
+    add-height
+    mul-code
+    shared-slice-read-code
+    add-edges
+    loop-less
+    loop-again
+    same-length
+    returns)

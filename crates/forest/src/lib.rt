@@ -1,0 +1,109 @@
+// The forest engine: the reduced form of a word, one letter in constant time.
+ghost use mathlib.Core.Path.{_≡_};
+ghost use Rattle.group.specs.Texts.{letterOf};
+ghost use Rattle.refusals.specs.Outcomes.{verdictOf, checked};
+ghost use Rattle.forest.specs.Judging.{judged};
+ghost use Rattle.forest.specs.Filling.{FilledTables};
+ghost use Rattle.forest.specs.Scanning.{isLetter, lettersInFront};
+use refusals::LIMIT;
+use refusals::Refusal;
+use refusals::Verdict;
+
+mod cells;
+mod leaves;
+mod row;
+
+// The entries of `lefts` and of `rights`, scratch of `fill_tables`.
+pub const CELLS: usize = LIMIT + LIMIT + 1;
+
+// The entries of `stack`, scratch of `fill_tables`.
+pub const ROOM: usize = LIMIT + 2;
+
+// The answer of `fill_tables`: done, a refusal of the word or the tables, or scratch of other sizes.
+pub enum Filling {
+    Filled,
+    Refused(Refusal),
+    Unfit,
+}
+
+// Whether a byte is a letter.
+fn is_letter(byte: u8) -> bool
+    ensures { λ r. ⌜ r ≡ isLetter (letterOf byte) ⌝ }
+{
+    if byte == b'a' {
+        return true;
+    }
+    if byte == b'A' {
+        return true;
+    }
+    if byte == b'b' {
+        return true;
+    }
+    byte == b'B'
+}
+
+// The offset of the first byte that is no letter, or the number of bytes.
+fn first_bad(word: &[u8]) -> usize
+    ensures { λ r. ⌜ r ≡ lettersInFront (now (word .entry)) ⌝ }
+{
+    let mut i = 0;
+    while i < word.len() {
+        if !is_letter(word[i]) {
+            return i;
+        }
+        i += 1;
+    }
+    i
+}
+
+// Refusals 1, 2 and 6, in this order; the lengths are those of the two tables.
+pub fn judge(word: &[u8], b_length: usize, a_length: usize) -> Verdict
+    ensures { λ r. ⌜ verdictOf r ≡ checked (judged (now (word .entry)) «b_length» «a_length») ⌝ }
+{
+    let n = word.len();
+    if LIMIT < n {
+        return Verdict::Refused(Refusal::TooManyLetters);
+    }
+    let bad = first_bad(word);
+    if bad < n {
+        return Verdict::Refused(Refusal::NotLetter(bad));
+    }
+    if b_length < n + 1 {
+        return Verdict::Refused(Refusal::ShortTable);
+    }
+    if a_length < n + 1 {
+        return Verdict::Refused(Refusal::ShortTable);
+    }
+    Verdict::Accepted
+}
+
+// The exponents of the word's reduced form: entry i of the tables is b_i and a_i, for each i up to the number of
+// letters. The scratch is lent with any content; what it holds at exit is open.
+pub fn fill_tables(
+    word: &[u8],
+    b_table: &mut [u16],
+    a_table: &mut [u16],
+    lefts: &mut [u16],
+    rights: &mut [u16],
+    stack: &mut [u16],
+) -> Filling
+    ensures { λ r. ⌜ FilledTables (now (word .entry)) (now («b_table» .entry)) (now («a_table» .entry))
+        (now (lefts .entry)) (now (rights .entry)) (now (stack .entry)) (now («b_table» .exit))
+        (now («a_table» .exit)) (now (lefts .exit)) (now (rights .exit)) (now (stack .exit)) r ⌝ }
+{
+    if lefts.len() != CELLS {
+        return Filling::Unfit;
+    }
+    if rights.len() != CELLS {
+        return Filling::Unfit;
+    }
+    if stack.len() != ROOM {
+        return Filling::Unfit;
+    }
+    let v = judge(word, b_table.len(), a_table.len());
+    if let Verdict::Refused(r) = v {
+        return Filling::Refused(r);
+    }
+    leaves::fill(word, b_table, a_table, lefts, rights, stack);
+    Filling::Filled
+}

@@ -1,0 +1,72 @@
+-- The loop over the indices: the reduced form's clause, tested on two tables that show a form. Assumes nothing.
+use mathlib.Core.Path.{_≡_, refl, sym, ap, _∙_}
+use mathlib.Core.Bool.{Bool, true, false, cond}
+use mathlib.Core.List.{List}
+use Prim.Native.Nat.{ℕ, zero, suc, _+_, _-_, _<_, _≤_}
+use native.Mathlib.Numerals.{add-one}
+use native.Mathlib.Omega.{arith}
+use lib.ListN.{getD}
+use Rattle.group.specs.Forms.{bSide, aSide, Form, exponent}
+use Rattle.group.specs.Limits.{limit}
+use Rattle.refusals.specs.Outcomes.{Outcome, accepted, refused, checked}
+use Rattle.records.specs.Reading.{breaks, firstBreak}
+use Rattle.records.specs.Steps.{isBreak, Shown}
+
+-- The tables' test at an index is the form's.
+shown-break : (f : Form) (b a : List ℕ) (i : ℕ) → Shown f b a → i ≤ limit
+    → isBreak (getD b i 0) (getD a i 0) (getD b (i + 1) 0) (getD a (i + 1) 0) ≡ breaks f i
+shown-break f b a i h le =
+    simp (
+      h i (omega (arith, le)) .0,
+      h i (omega (arith, le)) .1,
+      add-one i,
+      h (suc i) (omega (arith, le)) .0,
+      h (suc i) (omega (arith, le)) .1,
+    )
+
+-- Some indices, the first of them tested.
+first-next : (f : Form) (i k : ℕ) → 0 < k
+    → firstBreak f i k ≡ cond (breaks f i) (refused 5 i) (firstBreak f (suc i) (k - 1))
+unfolding firstBreak
+first-next f i zero h = absurd (omega arith)
+first-next f i (suc k) h =
+    let e : k ≡ suc k - 1 = omega arith in
+    ap (λ (j : ℕ). cond (breaks f i) (refused 5 i) (firstBreak f (suc i) j)) e
+
+first-none : (f : Form) (i k : ℕ) → k ≡ 0 → firstBreak f i k ≡ accepted f
+unfolding firstBreak
+first-none f i zero e = refl
+first-none f i (suc k) e = absurd (omega arith)
+
+-- Amid the loop: no index below i breaks the clause.
+pub record Unbroken (b a : List ℕ) (i : ℕ) : Type 0 where
+  pub goes-on : (f : Form) → Shown f b a → firstBreak f i (suc limit - i) ≡ firstBreak f 0 (suc limit)
+
+module _ {b a : List ℕ} {i : ℕ} (h : Unbroken b a i) (f : Form) (sh : Shown f b a) where
+  next : i ≤ limit → (t : Bool)
+      → t ≡ isBreak (getD b i 0) (getD a i 0) (getD b (i + 1) 0) (getD a (i + 1) 0)
+      → cond t (refused 5 i) (firstBreak f (suc i) (suc limit - i - 1)) ≡ firstBreak f 0 (suc limit)
+  next le t e =
+      ap
+      (λ (p : Bool). cond p (refused 5 i) (firstBreak f (suc i) (suc limit - i - 1)))
+      (e ∙ shown-break f b a i sh le)
+      ∙ sym (first-next f i (suc limit - i) (omega (arith, le)))
+      ∙ h .goes-on f sh
+
+  pub break-here : i ≤ limit
+      → true ≡ isBreak (getD b i 0) (getD a i 0) (getD b (i + 1) 0) (getD a (i + 1) 0)
+      → refused 5 i ≡ checked (firstBreak f 0 (suc limit))
+  break-here le e = ap (λ (o : Outcome Form). checked o) (next le true e)
+
+  pub break-later : i ≤ limit
+      → false ≡ isBreak (getD b i 0) (getD a i 0) (getD b (i + 1) 0) (getD a (i + 1) 0)
+      → firstBreak f (i + 1) (suc limit - (i + 1)) ≡ firstBreak f 0 (suc limit)
+  break-later le e =
+      let k : suc limit - (i + 1) ≡ suc limit - i - 1 = omega arith in
+      ap (λ (j : ℕ). firstBreak f j (suc limit - (i + 1))) (add-one i)
+      ∙ ap (λ (j : ℕ). firstBreak f (suc i) j) k
+      ∙ next le false e
+
+  pub break-nowhere : limit < i → accepted 0 ≡ checked (firstBreak f 0 (suc limit))
+  break-nowhere lt =
+      ap (λ (o : Outcome Form). checked o) (sym (first-none f i (suc limit - i) (omega (arith, lt))) ∙ h .goes-on f sh)

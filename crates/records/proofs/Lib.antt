@@ -1,0 +1,36 @@
+-- Laws of the record. The main ones are in ReadBack, Accepted and Refused.
+
+-- the powers of a table; the lengths of records; the tables of a form
+pub mod Powers
+pub mod Lengths
+pub mod FormTables
+-- tests and outcomes; splittings of lists
+pub mod Tests
+pub mod Outcomes
+pub mod Splits
+-- entries written and read back; the frame; proper powers and their form
+pub mod WrittenEntries
+pub mod Framing
+pub mod ProperPowers
+pub mod Levels
+pub mod ReadBack
+pub mod RecordBytes
+-- scans and faults, the clause, and what a reading comes to
+pub mod Scans
+pub mod FirstFaults
+pub mod RecordFaults
+pub mod Clause
+pub mod Readings
+pub mod Accepted
+pub mod Refused
+-- the writer's loops and answers
+pub mod WriteLoops
+pub mod WriteAnswers
+-- the reader's loops and answers
+pub mod Frames
+pub mod Scanning
+pub mod Fields
+pub mod Placing
+pub mod Breaks
+pub mod Checks
+pub mod Decodings

@@ -1,0 +1,86 @@
+-- `write_record` meets its contract: each answer has its case. Assumes nothing.
+use native.Mathlib.Omega.{arith}
+use borrow.Author.Needs.{needs}
+use Rattle.records.specs.Format.{powers}
+use Rattle.records.proofs.Lengths.{entries-length, record-length}
+use Rattle.records.proofs.WriteAnswers.{unfit-b, unfit-a, short-buffer, all-written}
+use Rattle.records.proofs.write_record.Statement.{statement}
+use Rattle.records.proofs.write_record.Tie as tie
+
+add-if1 : tie.Need-add-if1
+add-if1 c = search needs
+
+returns : tie.Need-returns
+returns c = unfit-b (omega arith)
+
+add-if2 : tie.Need-add-if2
+add-if2 c = search needs
+
+returns-2 : tie.Need-returns-2
+returns-2 c = unfit-a (omega arith) (omega arith)
+
+count-powers-requires : tie.Need-count-powers-requires
+count-powers-requires c κs = search needs
+
+count-powers-requires-2 : tie.Need-count-powers-requires-2
+count-powers-requires-2 c κs = search needs
+
+add-if3 : tie.Need-add-if3
+add-if3 c = search needs
+
+mul-if3 : tie.Need-mul-if3
+mul-if3 c = search needs
+
+add-if3-2 : tie.Need-add-if3-2
+add-if3-2 c = search needs
+
+returns-3 : tie.Need-returns-3
+returns-3 c =
+    let entry = c .before .before .before .before .before .before .before .before in
+    short-buffer (omega arith) (omega arith) (omega (arith, record-length (entry .args .b .now) (entry .args .a .now)))
+
+put-record-requires : tie.Need-put-record-requires
+put-record-requires c κs =
+    let entry = c .before .before .before .before .before .before .before .before .before in
+    omega (
+      arith,
+      entries-length (powers 0 (entry .args .b .now)),
+      entries-length (powers 0 (entry .args .a .now)),
+    )
+
+same-length : tie.Need-same-length
+same-length c = search needs
+
+returns-4 : tie.Need-returns-4
+returns-4 c =
+    let judged = c .before .before .before .before in
+    let entry = judged .before .before .before .before .before .before .before .before in
+    all-written
+    (omega (arith, judged .before .before .before .before .if1 .left))
+    (omega (arith, judged .before .before .before .if2 .left))
+    (omega (
+      arith,
+      record-length (entry .args .b .now) (entry .args .a .now),
+      judged .if3 .left,
+      judged .before .count-powers2 .ensures,
+      judged .before .before .count-powers .ensures,
+    ))
+    (c .before .before .put-record .ensures)
+
+pub write-record-spec : {M : Type 1} → statement M
+write-record-spec =
+    tie.close
+    (tie.spec
+    add-if1
+    returns
+    add-if2
+    returns-2
+    count-powers-requires
+    count-powers-requires-2
+    add-if3
+    mul-if3
+    add-if3-2
+    returns-3
+    put-record-requires
+    same-length
+    returns-4)

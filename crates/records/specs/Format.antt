@@ -1,0 +1,69 @@
+-- The record of a form (01, 'The record'). All numbers are unsigned, high byte first.
+--     Power            x_i^e by its index and exponent        powers i t     the powers of exponents e_i, e_(i+1), …
+--     field tag body   a field: tag, length, body             recordOf b a   the record of two sides' exponents
+--     encode f         the record of a form                   Within f       indices and exponents within the limit
+-- Assumes nothing.
+use mathlib.Core.List.{List, [], _∷_, _++_}
+use Prim.Native.Nat.{ℕ, zero, suc, _+_, _*_, _/_, _%_, _<_, _≤_}
+use lib.ListN.{length}
+use Rattle.group.specs.Forms.{Side, bSide, aSide, Form, empty, level, onSide, exponent, exponentSum}
+use Rattle.group.specs.Limits.{limit}
+
+-- A power of a generator: its index and its exponent.
+pub data Power : Type 0 where
+  power : (index exponent : ℕ) → Power
+
+-- The powers of a list of exponents whose first has index i; exponent 0 is no power.
+abbrev pub putPower : ℕ → ℕ → List Power → List Power
+putPower i zero ps = ps
+putPower i (suc e) ps = power i (suc e) ∷ ps
+
+abbrev pub powers : ℕ → List ℕ → List Power
+powers i [] = []
+powers i (e ∷ t) = putPower i e (powers (suc i) t)
+
+-- A number in two bytes.
+abbrev pub twoBytes : ℕ → List ℕ
+twoBytes x = (x / 256) ∷ (x % 256) ∷ []
+
+-- The entries of powers, four bytes each: index, exponent.
+abbrev pub entries : List Power → List ℕ
+entries [] = []
+entries (power i e ∷ ps) = twoBytes i ++ (twoBytes e ++ entries ps)
+
+-- A field: a one-byte tag, a two-byte length, then that many bytes.
+abbrev pub field : ℕ → List ℕ → List ℕ
+field tag body = tag ∷ (twoBytes (length body) ++ body)
+
+-- The tags of the b side and of the a side.
+abbrev pub bTag : ℕ
+bTag = 1
+
+abbrev pub aTag : ℕ
+aTag = 2
+
+-- The record of the exponents b_0, b_1, … and a_0, a_1, …: the field of the b side, then the field of the a side.
+abbrev pub recordOf : List ℕ → List ℕ → List ℕ
+recordOf b a = field bTag (entries (powers 0 b)) ++ field aTag (entries (powers 0 a))
+
+-- The exponents of a side, level by level.
+abbrev pub exponents : Side → Form → List ℕ
+exponents s empty = []
+exponents s (level b a f) = onSide s b a ∷ exponents s f
+
+-- The record of a form.
+abbrev pub encode : Form → List ℕ
+encode f = recordOf (exponents bSide f) (exponents aSide f)
+
+-- The bytes of a record with no entry.
+abbrev pub baseSize : ℕ
+baseSize = 6
+
+-- The bytes that a record buffer needs for a word of n letters: every letter may need an entry.
+abbrev pub bufferSize : ℕ → ℕ
+bufferSize n = baseSize + 4 * n
+
+-- No index above the limit occurs, and the exponents sum to at most the limit.
+pub record Within (f : Form) : Type 0 where
+  pub indices : (s : Side) (i : ℕ) → 0 < exponent s f i → i ≤ limit
+  pub sum : exponentSum f ≤ limit

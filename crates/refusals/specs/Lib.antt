@@ -1,0 +1,3 @@
+-- Refusals and outcomes.
+pub mod Refusals
+pub mod Outcomes

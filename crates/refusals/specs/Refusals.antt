@@ -1,0 +1,29 @@
+-- The number and the place of each refusal (01, 'Who caused the refusal'). A place that is not named is 0.
+-- Assumes nothing.
+use Prim.Native.Nat.{ℕ}
+use Rattle.group.specs.Limits.{limit}
+use Rattle.refusals.specs.declared.Refusal.{Refusal}
+use Rattle.refusals.specs.declared.Refusal.the-variants.{TooManyLetters, NotLetter, BadFrame, BadEntry}
+use Rattle.refusals.specs.declared.Refusal.the-variants.{NotReduced, ShortTable, ShortBuffer, LongSpelling}
+
+-- The paper's number of a refusal.
+abbrev pub numberOf : Refusal → ℕ
+numberOf TooManyLetters = 1
+numberOf (NotLetter offset) = 2
+numberOf BadFrame = 3
+numberOf (BadEntry offset) = 4
+numberOf (NotReduced i) = 5
+numberOf ShortTable = 6
+numberOf ShortBuffer = 7
+numberOf LongSpelling = 8
+
+-- The paper's place: the limit, an offset from 0, or the index of a generator.
+abbrev pub placeOf : Refusal → ℕ
+placeOf TooManyLetters = limit
+placeOf (NotLetter offset) = offset
+placeOf BadFrame = 0
+placeOf (BadEntry offset) = offset
+placeOf (NotReduced i) = i .0
+placeOf ShortTable = 0
+placeOf ShortBuffer = 0
+placeOf LongSpelling = 0

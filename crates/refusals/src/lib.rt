@@ -1,0 +1,87 @@
+// The refusals of the calls, with the number and the place of each; the limit; the three kinds of counts.
+ghost use mathlib.Core.Path.{_≡_};
+ghost use Rattle.group.specs.Limits.{limit as theLimit};
+ghost use Rattle.refusals.specs.Refusals.{numberOf, placeOf};
+
+// The most letters of a word; also the highest index and the highest sum of exponents of a record.
+pub const LIMIT: usize = 4096;
+
+// k of a generator x_k.
+pub struct GeneratorIndex(pub u16);
+
+// The number of a leaf of a tree, from the left.
+pub struct LeafNumber(pub u16);
+
+// The number of a caret of a tree: caret k stands between the leaves k and k + 1.
+pub struct CaretNumber(pub u16);
+
+// Why a call refuses what it was given.
+pub enum Refusal {
+    // More letters than the limit.
+    TooManyLetters,
+    // A byte that is no letter, with its offset.
+    NotLetter(usize),
+    // The two fields do not frame the record.
+    BadFrame,
+    // An entry that breaks a rule, with its offset.
+    BadEntry(usize),
+    // The form is not reduced: the smallest index that breaks the clause.
+    NotReduced(GeneratorIndex),
+    // A table that is too short.
+    ShortTable,
+    // An output buffer that is too short.
+    ShortBuffer,
+    // A spelling with more letters than the limit.
+    LongSpelling,
+}
+
+// Accepted or refused: the answer of calls that write nothing.
+pub enum Verdict {
+    Accepted,
+    Refused(Refusal),
+}
+
+// The number of bytes written, or a refusal.
+pub enum Written {
+    Bytes(usize),
+    Refused(Refusal),
+}
+
+// The constant is the limit of the definitions.
+pub fn limit() -> usize
+    ensures { λ r. ⌜ r ≡ theLimit ⌝ }
+{
+    LIMIT
+}
+
+// The number of a refusal.
+pub fn number(r: Refusal) -> u8
+    ensures { λ n. ⌜ n ≡ numberOf r ⌝ }
+{
+    match r {
+        Refusal::TooManyLetters => 1,
+        Refusal::NotLetter(_) => 2,
+        Refusal::BadFrame => 3,
+        Refusal::BadEntry(_) => 4,
+        Refusal::NotReduced(_) => 5,
+        Refusal::ShortTable => 6,
+        Refusal::ShortBuffer => 7,
+        Refusal::LongSpelling => 8,
+    }
+}
+
+// The place of a refusal; 0 where none is named.
+pub fn place(r: Refusal) -> usize
+    ensures { λ p. ⌜ p ≡ placeOf r ⌝ }
+{
+    match r {
+        Refusal::TooManyLetters => LIMIT,
+        Refusal::NotLetter(offset) => offset,
+        Refusal::BadFrame => 0,
+        Refusal::BadEntry(offset) => offset,
+        Refusal::NotReduced(index) => index.0 as usize,
+        Refusal::ShortTable => 0,
+        Refusal::ShortBuffer => 0,
+        Refusal::LongSpelling => 0,
+    }
+}
