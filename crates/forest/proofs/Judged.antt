@@ -11,6 +11,7 @@ use Rattle.group.specs.Letters.{Word}
 use Rattle.group.specs.Bytes.{Reading, isWord, notLetter, readWord}
 use Rattle.group.specs.Limits.{limit}
 use Rattle.refusals.specs.Outcomes.{Outcome, accepted, refused, checked}
+use Rattle.refusals.proofs.Outcomes.{passed}
 use Rattle.forest.specs.Judging.{judgedReading, judged}
 use Rattle.forest.specs.Scanning.{lettersInFront}
 use Rattle.forest.proofs.Scanning.{all-letters, some-bad}
@@ -68,11 +69,6 @@ pub record Fit (s : List ℕ) (nb na : ℕ) (w : Word) : Type 0 where
   pub reads : readWord s ≡ isWord w
   pub b-long : length s + 1 ≤ nb
   pub a-long : length s + 1 ≤ na
-
-passed : {A : Type 0} (t : Bool) (n p : ℕ) (o : Outcome A) (x : A) → cond t (refused n p) o ≡ accepted x
-    → (t ≡ false) × (o ≡ accepted x)
-passed true n p o x e = let z : _≡_ {A = ℕ} 0 1 = cc in absurd (omega arith)
-passed false n p o x e = (refl, e)
 
 reading-fit : (s : List ℕ) (nb na : ℕ) (w : Word) (r : Reading) → length s ≤ limit → readWord s ≡ r
     → judgedReading r (length s) nb na ≡ accepted w → Fit s nb na w

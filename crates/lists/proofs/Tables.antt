@@ -1,11 +1,11 @@
 -- Laws of filled tables: their length, and their entries. Assumes nothing.
 use mathlib.Core.Path.{_≡_, refl, sym, ap, _∙_}
-use mathlib.Core.List.{List, _∷_}
+use mathlib.Core.List.{List, _∷_, _++_}
 use Prim.Native.Nat.{ℕ, zero, suc, _+_, _-_, _<_, _≤_}
 use native.Mathlib.Nat.{not-suc-le-zero, le-of-suc-le-suc}
 use native.Mathlib.Omega.{arith}
 use native.Mathlib.Decide.{decLe}
-use lib.ListN.{length, drop, getD, replicate, length-append, length-drop, List·getD-append}
+use lib.ListN.{length, take, drop, getD, replicate, length-append, length-drop, List·getD-append}
 use lib.Seq.{ext-getD, getD-append-add, getD-drop}
 use Rattle.lists.specs.Tables.{values, filled}
 
@@ -60,3 +60,14 @@ filled-by m f t u h e low high =
     go : (i : ℕ) → Dec (i < m) → getD u i 0 ≡ getD (filled m f t) i 0
     go i (yes c) = low i c ∙ sym (filled-at m f t i c)
     go i (no c) = high i (omega arith) ∙ sym (filled-beyond m f t i (omega arith))
+
+-- The front of a filled table.
+values-front : (n m : ℕ) (f : ℕ → ℕ) (u : List ℕ) → n ≤ m → take n (values m f ++ u) ≡ values n f
+unfolding values
+values-front zero m f u h = refl
+values-front (suc n) zero f u h = absurd (not-suc-le-zero h)
+values-front (suc n) (suc m) f u h =
+    ap (λ (l : List ℕ). f 0 ∷ l) (values-front n m (λ i. f (suc i)) u (le-of-suc-le-suc h))
+
+pub filled-front : (n m : ℕ) (f : ℕ → ℕ) (t : List ℕ) → n ≤ m → take n (filled m f t) ≡ values n f
+filled-front n m f t h = values-front n m f (drop m t) h

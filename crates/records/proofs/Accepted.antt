@@ -21,7 +21,7 @@ use Rattle.records.proofs.Levels.{upTo-trimmed, exponents-total}
 use Rattle.records.proofs.ReadBack.{sidePowers, form-exponent, powers-exponent, form-proper}
 use Rattle.records.proofs.ReadBack.{frames-encode, powers-encode, form-encode}
 use Rattle.records.proofs.Clause.{applies-reduced, reduced-applies}
-use Rattle.records.proofs.Outcomes.{accepted-same, accepted-refused}
+use Rattle.refusals.proofs.Outcomes.{accepted-same, accepted-refused}
 use Rattle.records.proofs.Readings.{Readable, Reads, unframed, faulty, unreduced, readable}
 use Rattle.records.proofs.Readings.{formRead-index, reads}
 

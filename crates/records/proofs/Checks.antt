@@ -17,7 +17,7 @@ use Rattle.records.specs.Reading.{bLength, aLength, aStart, frames, bPow
 use Rattle.records.specs.Reading.{reducedForm, readEntries, decode}
 use Rattle.records.specs.Faults.{formRead}
 use Rattle.records.specs.Steps.{frameOf, scanBoth, BreakFound}
-use Rattle.records.proofs.Outcomes.{accepted-refused}
+use Rattle.refusals.proofs.Outcomes.{accepted-refused}
 use Rattle.records.proofs.ReadBack.{sidePowers}
 use Rattle.records.proofs.Levels.{upTo-below, upTo-behind}
 

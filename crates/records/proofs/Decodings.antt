@@ -21,7 +21,7 @@ use Rattle.records.specs.Contracts.{decodedIn, tableRead, Decoded}
 use Rattle.records.specs.Faults.{formRead}
 use Rattle.records.specs.Steps.{frameOf, Ordered}
 use Rattle.records.specs.declared.reading.Frame.the-variants.{Exact, Broken}
-use Rattle.records.proofs.Outcomes.{accepted-same, accepted-refused}
+use Rattle.refusals.proofs.Outcomes.{accepted-same, accepted-refused}
 use Rattle.records.proofs.ReadBack.{sidePowers}
 use Rattle.records.proofs.Readings.{Readable, Reads, unframed, faulty, unreduced, readable, reads}
 use Rattle.records.proofs.Checks.{form-below}

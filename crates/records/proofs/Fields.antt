@@ -11,7 +11,7 @@ use Rattle.records.specs.Format.{Power, baseSize}
 use Rattle.records.specs.Reading.{entriesAt, bPowers, aPowers, aStart, exponentAt, scan}
 use Rattle.records.specs.Steps.{Proper, Ordered, scanBoth, frameOf}
 use Rattle.records.specs.declared.reading.Frame.the-variants.{Exact}
-use Rattle.records.proofs.Outcomes.{accepted-refused}
+use Rattle.refusals.proofs.Outcomes.{accepted-refused}
 use Rattle.records.proofs.Scans.{passed→proper}
 use Rattle.records.proofs.Frames.{Opened, frame-opens}
 

@@ -20,7 +20,7 @@ use Rattle.records.specs.Faults.{Faulty, noExponent, highIndex, notRisin
 use Rattle.records.proofs.Splits.{split-empty, last-same, Split, append-split}
 use Rattle.records.specs.Steps.{Proper}
 use Rattle.records.proofs.ProperPowers.{total}
-use Rattle.records.proofs.Outcomes.{accepted-refused, refused-place}
+use Rattle.refusals.proofs.Outcomes.{accepted-refused, refused-place}
 use Rattle.records.proofs.Scans.{Fit, passed→fit}
 
 -- One sound entry more.

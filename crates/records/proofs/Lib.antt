@@ -4,9 +4,8 @@
 pub mod Powers
 pub mod Lengths
 pub mod FormTables
--- tests and outcomes; splittings of lists
+-- tests; splittings of lists
 pub mod Tests
-pub mod Outcomes
 pub mod Splits
 -- entries written and read back; the frame; proper powers and their form
 pub mod WrittenEntries

@@ -12,7 +12,7 @@ use Rattle.group.specs.Limits.{limit}
 use Rattle.refusals.specs.Outcomes.{accepted, refused}
 use Rattle.records.specs.Format.{Power, power}
 use Rattle.records.specs.Reading.{faulty, scan}
-use Rattle.records.proofs.Outcomes.{accepted-same, accepted-refused}
+use Rattle.refusals.proofs.Outcomes.{accepted-same, accepted-refused}
 use Rattle.records.proofs.Tests.{neither-left, neither-right, fails-neither}
 use Rattle.records.specs.Steps.{Proper}
 use Rattle.records.proofs.ProperPowers.{total}

@@ -1,0 +1,203 @@
+-- Two words: the answer and what is left, in each case. Assumes nothing.
+use mathlib.Core.Path.{_≡_, refl, sym, ap, ap₂, subst, _∙_}
+use mathlib.Core.Bool.{Bool, true, false, cond}
+use mathlib.Core.List.{List, [], _∷_}
+use Prim.Native.Nat.{ℕ, _+_, _≤_}
+use native.Mathlib.Omega.{arith}
+use lib.ListN.{length, take, replicate, length-replicate, length-take}
+use lib.Seq.{sets, sets-eq, take-at}
+use lib.Dec.{eqb}
+use borrow.Author.Tests.{eqb-true, eqb-false, eq-eqb}
+use Rattle.group.specs.Letters.{Word}
+use Rattle.group.specs.Forms.{bSide, aSide}
+use Rattle.group.specs.Products.{formOf}
+use Rattle.group.proofs.Bytes.{read-length}
+use Rattle.group.proofs.Sizes.{form-sum}
+use Rattle.refusals.specs.declared.Verdict.{Verdict}
+use Rattle.refusals.specs.declared.Verdict.the-variants.{Accepted, Refused}
+use Rattle.refusals.specs.declared.Refusal.{Refusal}
+use Rattle.refusals.specs.declared.Written.the-variants.{Refused as NotWritten}
+use Rattle.refusals.specs.Refusals.{numberOf, placeOf}
+use Rattle.refusals.specs.Outcomes.{Outcome, accepted, refused, checked, verdictOf}
+use Rattle.refusals.proofs.Outcomes.{accepted-same, accepted-refused, checked-accepted, checked-refused}
+use Rattle.records.specs.Format.{bufferSize}
+use Rattle.records.proofs.Lengths.{encode-size}
+use Rattle.forest.specs.Filling.{cells, room, tableAfter}
+use Rattle.words.specs.Recording.{recordOfWord, recorded, bufferAfter, Memory, judgedWith, Left}
+use Rattle.words.specs.Recording.{Recorded, Accepts, Ready, WordWritten}
+use Rattle.words.specs.Comparing.{Decision, same, different, refusedWord, decided, decisionOf, sameBytes, beside}
+use Rattle.words.specs.Comparing.{Compared, SameBytes, TwoWritten}
+use Rattle.words.specs.declared.Comparison.{Comparison}
+use Rattle.words.specs.declared.Comparison.the-variants.{Same, Different, First, Second}
+use Rattle.words.proofs.Judged.{accepted-record}
+
+-- Nothing is altered where the outcome is a refusal.
+left-kept : (o : Outcome Word) (n p : ℕ) (m : Memory) → o ≡ refused n p → Left o m m
+left-kept o n p m e = record {
+  b-table = sym (ap (λ (q : Outcome Word). tableAfter bSide q (m .b)) e);
+  a-table = sym (ap (λ (q : Outcome Word). tableAfter aSide q (m .a)) e);
+  bytes = sym (ap (λ (q : Outcome Word). bufferAfter q (m .buffer)) e);
+}
+
+-- A verdict's refusal is the word's outcome.
+pub verdict-refused : (o : Outcome Word) (v : Verdict) (r : Refusal) → verdictOf v ≡ checked o → v ≡ Refused r
+    → o ≡ refused (numberOf r) (placeOf r)
+verdict-refused o v r h e = checked-refused o (sym (ap verdictOf e) ∙ h)
+
+pub verdict-accepts : (word : List ℕ) (m : Memory) (v : Verdict) → verdictOf v ≡ checked (judgedWith word m)
+    → v ≡ Accepted → Accepts word m
+verdict-accepts word m v h e =
+    let f = checked-accepted (judgedWith word m) (sym (ap verdictOf e) ∙ h) in
+    record { letters = f .0; judged-so = f .1 }
+
+-- The first word is refused, whatever the second is.
+pub first-refused : (word1 : List ℕ) (m1 : Memory) (word2 : List ℕ) (m2 : Memory) (v : Verdict) (r : Refusal)
+    → verdictOf v ≡ checked (judgedWith word1 m1) → v ≡ Refused r → Compared word1 m1 m1 word2 m2 m2 (First r)
+first-refused word1 m1 word2 m2 v r h e = go (judgedWith word2 m2) refl
+  where
+    so : judgedWith word1 m1 ≡ refused (numberOf r) (placeOf r)
+    so = verdict-refused (judgedWith word1 m1) v r h e
+
+    go : (o : Outcome Word) → judgedWith word2 m2 ≡ o → Compared word1 m1 m1 word2 m2 m2 (First r)
+    go (accepted w) q = record {
+      result = sym (ap₂ decided so q);
+      leaves1 = left-kept _ (numberOf r) (placeOf r) m1 (ap₂ beside so q);
+      leaves2 = left-kept _ (numberOf r) (placeOf r) m2 (ap₂ beside q so);
+    }
+    go (refused n p) q = record {
+      result = sym (ap₂ decided so q);
+      leaves1 = left-kept _ n p m1 (ap₂ beside so q);
+      leaves2 = left-kept _ (numberOf r) (placeOf r) m2 (ap₂ beside q so);
+    }
+
+-- The first word is accepted, and the second refused.
+pub second-refused : (word1 : List ℕ) (m1 : Memory) (word2 : List ℕ) (m2 : Memory) (v : Verdict) (r : Refusal)
+    → Accepts word1 m1 → verdictOf v ≡ checked (judgedWith word2 m2) → v ≡ Refused r
+    → Compared word1 m1 m1 word2 m2 m2 (Second r)
+second-refused word1 m1 word2 m2 v r f h e =
+    let so = verdict-refused (judgedWith word2 m2) v r h e in
+    record {
+      result = sym (ap₂ decided (f .judged-so) so);
+      leaves1 = left-kept _ (numberOf r) (placeOf r) m1 (ap₂ beside (f .judged-so) so);
+      leaves2 = left-kept _ (numberOf r) (placeOf r) m2 (ap₂ beside so (f .judged-so));
+    }
+
+-- The bytes at the front of the buffer of an accepted word are its record.
+pub front-record : (word : List ℕ) (m m′ : Memory) (n : ℕ) (f : Accepts word m) → WordWritten word m m′ n
+    → (n ≡ length (recordOfWord (f .letters))) × (take n (m′ .buffer) ≡ recordOfWord (f .letters))
+front-record word m m′ n f w =
+    let v = f .letters in
+    let so = f .judged-so in
+    let fit = accepted-record word (length (m .b)) (length (m .a)) (length (m .buffer)) v so in
+    let count : n ≡ length (recordOfWord v) =
+    accepted-same (w .result ∙ ap (λ (o : Outcome Word). recorded o) so) in
+    let fits : 0 + length (recordOfWord v) ≤ length (m .buffer) =
+    omega (arith, encode-size (formOf v), form-sum v, fit .roomy, read-length word v (fit .fit .reads)) in (
+      count,
+      ap (take n)
+          (w .leaves .bytes
+          ∙ ap (λ (o : Outcome Word). bufferAfter o (m .buffer)) so
+          ∙ sets-eq (recordOfWord v) (m .buffer) 0 fits)
+          ∙ take-at (recordOfWord v) _ n (sym count),
+    )
+
+-- `sameBytes` says whether two lists are the same.
+pub same-bytes : (s t : List ℕ) → sameBytes s t ≡ true → s ≡ t
+unfolding sameBytes
+same-bytes [] [] h = refl
+same-bytes [] (y ∷ t) h = let z : _≡_ {A = ℕ} 0 1 = cc in absurd (omega arith)
+same-bytes (x ∷ s) [] h = let z : _≡_ {A = ℕ} 0 1 = cc in absurd (omega arith)
+same-bytes (x ∷ s) (y ∷ t) h = go (eqb x y) refl h (same-bytes s t)
+  where
+    go : (p : Bool) → eqb x y ≡ p → cond p (sameBytes s t) false ≡ true → (sameBytes s t ≡ true → s ≡ t)
+        → x ∷ s ≡ y ∷ t
+    go true e k later = ap₂ (λ (u : ℕ) (l : List ℕ). u ∷ l) (eqb-true x y e) (later k)
+    go false e k later = let z : _≡_ {A = ℕ} 0 1 = cc in absurd (omega arith)
+
+pub bytes-same : (s : List ℕ) → sameBytes s s ≡ true
+unfolding sameBytes
+bytes-same [] = refl
+bytes-same (x ∷ s) = ap (λ (p : Bool). cond p (sameBytes s s) false) (eq-eqb x x refl) ∙ bytes-same s
+
+-- Both words are accepted and written.
+module _ (word1 : List ℕ) (m1 m1′ : Memory) (word2 : List ℕ) (m2 m2′ : Memory) (f1 : Accepts word1 m1)
+    (f2 : Accepts word2 m2) (r : Bool) (w : TwoWritten word1 m1 m1′ word2 m2 m2′ r) where
+  agree : r ≡ sameBytes (recordOfWord (f1 .letters)) (recordOfWord (f2 .letters))
+  agree = go r refl (sameBytes (recordOfWord (f1 .letters)) (recordOfWord (f2 .letters))) refl
+    where
+      one : take (w .first) (m1′ .buffer) ≡ recordOfWord (f1 .letters)
+      one = front-record word1 m1 m1′ (w .first) f1 (w .written1) .1
+
+      two : take (w .second) (m2′ .buffer) ≡ recordOfWord (f2 .letters)
+      two = front-record word2 m2 m2′ (w .second) f2 (w .written2) .1
+
+      go : (p : Bool) → r ≡ p → (q : Bool) → sameBytes (recordOfWord (f1 .letters)) (recordOfWord (f2 .letters)) ≡ q
+          → p ≡ q
+      go true e true k = refl
+      go false e false k = refl
+      go true e false k =
+          let eq = sym one ∙ w .says .same-if e ∙ two in
+          sym
+          (sym k
+          ∙ ap (λ (l : List ℕ). sameBytes (recordOfWord (f1 .letters)) l) (sym eq)
+          ∙ bytes-same (recordOfWord (f1 .letters)))
+      go false e true k =
+          let eq = same-bytes (recordOfWord (f1 .letters)) (recordOfWord (f2 .letters)) k in
+          sym e ∙ w .says .if-same (one ∙ eq ∙ sym two)
+
+  pub both-written : (c : Comparison) → decisionOf c ≡ cond r same different
+      → Compared word1 m1 m1′ word2 m2 m2′ c
+  both-written c d = record {
+    result =
+        d
+        ∙ ap (λ (p : Bool). cond p same different) agree
+        ∙ sym (ap₂ decided (f1 .judged-so) (f2 .judged-so));
+    leaves1 = own m1 m1′ word1 (w .written1 .leaves) (sym (ap (beside (judgedWith word1 m1)) (f2 .judged-so)));
+    leaves2 = own m2 m2′ word2 (w .written2 .leaves) (sym (ap (beside (judgedWith word2 m2)) (f1 .judged-so)));
+  }
+    where
+      own : (m m′ : Memory) (word : List ℕ) {o : Outcome Word} → Left (judgedWith word m) m m′
+          → judgedWith word m ≡ o → Left o m m′
+      own m m′ word left e = subst (λ (o : Outcome Word). Left o m m′) e left
+
+-- A refused word's call.
+pub refused-recorded : (word : List ℕ) (m : Memory) (v : Verdict) (r : Refusal) → verdictOf v ≡ checked (judgedWith word m)
+    → v ≡ Refused r → Recorded word m m (NotWritten r)
+refused-recorded word m v r h e =
+    let so = verdict-refused (judgedWith word m) v r h e in
+    record {
+      result = sym (ap (λ (o : Outcome Word). recorded o) so);
+      leaves = left-kept (judgedWith word m) (numberOf r) (placeOf r) m so;
+    }
+
+-- An accepted word beside fresh scratch, and beside scratch that another word has used.
+pub scratch-ready : {word : List ℕ} {m : Memory} → Accepts word m
+    → Ready word m (replicate cells 0) (replicate cells 0) (replicate room 0)
+scratch-ready f = record {
+  accepts = f;
+  lefts-length = length-replicate {A = ℕ} cells 0;
+  rights-length = length-replicate {A = ℕ} cells 0;
+  stack-length = length-replicate {A = ℕ} room 0;
+}
+
+pub scratch-ready-again : {word : List ℕ} {m : Memory} {lefts rights stack : List ℕ} → Accepts word m
+    → length lefts ≡ length (replicate {A = ℕ} cells 0) → length rights ≡ length (replicate {A = ℕ} cells 0)
+    → length stack ≡ length (replicate {A = ℕ} room 0) → Ready word m lefts rights stack
+scratch-ready-again f p q r = record {
+  accepts = f;
+  lefts-length = p ∙ length-replicate {A = ℕ} cells 0;
+  rights-length = q ∙ length-replicate {A = ℕ} cells 0;
+  stack-length = r ∙ length-replicate {A = ℕ} room 0;
+}
+
+pub word-ready : (word : List ℕ) (m : Memory) (v : Verdict) → verdictOf v ≡ checked (judgedWith word m) → v ≡ Accepted
+    → Ready word m (replicate cells 0) (replicate cells 0) (replicate room 0)
+word-ready word m v h e = scratch-ready (verdict-accepts word m v h e)
+
+-- The record lies inside the buffer.
+pub record-inside : {word : List ℕ} {m m′ : Memory} {n : ℕ} → Accepts word m → WordWritten word m m′ n
+    → n ≤ length (m′ .buffer)
+record-inside {word} {m} {m′} {n} f w =
+    let front = front-record word m m′ n f w in
+    let short : length (take n (m′ .buffer)) ≤ length (m′ .buffer) = omega (arith, length-take n (m′ .buffer)) in
+    omega (arith, front .0, ap length (front .1), short)

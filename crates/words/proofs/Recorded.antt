@@ -1,0 +1,124 @@
+-- The tables and the record of an accepted word. Assumes nothing.
+use mathlib.Core.Path.{_≡_, refl, sym, ap, ap₂, _∙_}
+use mathlib.Core.List.{List}
+use Prim.Native.Nat.{ℕ, suc, _+_, _≤_}
+use native.Mathlib.Omega.{arith}
+use lib.ListN.{length, take}
+use lib.Seq.{sets}
+use borrow.Author.Tests.{le-ltb, eq-eqb}
+use Rattle.lists.specs.Tables.{values, filled}
+use Rattle.lists.proofs.Tables.{values-length, filled-front}
+use Rattle.group.specs.Letters.{Word}
+use Rattle.group.specs.Forms.{Side, bSide, aSide, exponent, exponentSum}
+use Rattle.group.specs.Products.{formOf}
+use Rattle.group.specs.Limits.{limit}
+use Rattle.group.proofs.Bytes.{read-length}
+use Rattle.group.proofs.Sizes.{levels, form-sum}
+use Rattle.refusals.specs.Outcomes.{Outcome, accepted, after, valued}
+use Rattle.refusals.proofs.Outcomes.{accepted-same}
+use Rattle.records.specs.Format.{recordOf, encode, bufferSize}
+use Rattle.records.specs.Contracts.{encodingOf, encoded, Encoded}
+use Rattle.records.specs.declared.Encoding.{Encoding}
+use Rattle.records.specs.declared.Encoding.the-variants.{Bytes, Refused, Unfit}
+use Rattle.records.proofs.FormTables.{record-values}
+use Rattle.records.proofs.Lengths.{encode-size}
+use Rattle.forest.specs.Filling.{cells, room, judgedIn, tableAfter}
+use Rattle.words.specs.Recording.{memory, recordOfWord, recorded, bufferAfter, Ready, WordWritten, bytesWritten}
+use Rattle.words.proofs.Judged.{RecordFit, accepted-record}
+
+-- The number of bytes of a record, where it was written.
+pub bytes-written : (e : Encoding) (n : ℕ) → encodingOf e ≡ accepted n → bytesWritten e ≡ n
+bytes-written (Bytes k) n h = accepted-same h
+bytes-written (Refused r) n h = let z : _≡_ {A = ℕ} 0 1 = cc in absurd (omega arith)
+bytes-written Unfit n h = let z : _≡_ {A = ℕ} 0 1 = cc in absurd (omega arith)
+
+module _ {word b a buffer lefts rights stack : List ℕ} (h : Ready word (memory b a buffer) lefts rights stack) where
+  abbrev pub theWord : Word
+  theWord = h .accepts .letters
+
+  pub word-fit : RecordFit word (length b) (length a) (length buffer) theWord
+  word-fit = accepted-record word (length b) (length a) (length buffer) theWord (h .accepts .judged-so)
+
+  pub same-length : length word ≡ length theWord
+  same-length = read-length word theWord (word-fit .fit .reads)
+
+  -- The engine takes the word.
+  pub engine-accepts : judgedIn word b a lefts rights stack ≡ accepted theWord
+  engine-accepts =
+      simp (
+        eq-eqb (length lefts) cells (h .lefts-length),
+        eq-eqb (length rights) cells (h .rights-length),
+        eq-eqb (length stack) room (h .stack-length),
+      )
+      (word-fit .judged-so)
+
+  -- The table that the engine leaves.
+  pub engine-table : (s : Side) (t t′ : List ℕ) → t′ ≡ tableAfter s (judgedIn word b a lefts rights stack) t
+      → t′ ≡ filled (length theWord + 1) (exponent s (formOf theWord)) t
+  engine-table s t t′ e = e ∙ ap (λ (o : Outcome Word). tableAfter s o t) engine-accepts
+
+  -- The record of the front of both tables is the word's.
+  module _ (n : ℕ) (few : levels (formOf theWord) ≤ n) (most : n ≤ length theWord + 1) (b′ a′ : List ℕ)
+      (eb : b′ ≡ tableAfter bSide (judgedIn word b a lefts rights stack) b)
+      (ea : a′ ≡ tableAfter aSide (judgedIn word b a lefts rights stack) a) where
+    front : (s : Side) (t t′ : List ℕ) → t′ ≡ tableAfter s (judgedIn word b a lefts rights stack) t
+        → take n t′ ≡ values n (exponent s (formOf theWord))
+    front s t t′ e =
+        ap (take n) (engine-table s t t′ e)
+        ∙ filled-front n (length theWord + 1) (exponent s (formOf theWord)) t most
+
+    pub front-record : recordOf (take n b′) (take n a′) ≡ recordOfWord theWord
+    front-record = ap₂ recordOf (front bSide b b′ eb) (front aSide a a′ ea) ∙ record-values (formOf theWord) n few
+
+    front-length : (s : Side) (t t′ : List ℕ) → t′ ≡ tableAfter s (judgedIn word b a lefts rights stack) t
+        → length (take n t′) ≤ suc limit
+    front-length s t t′ e =
+        omega (
+          arith,
+          ap length (front s t t′ e),
+          values-length n (exponent s (formOf theWord)),
+          most,
+          same-length,
+          word-fit .fit .short,
+        )
+
+    record-fits : length (recordOf (take n b′) (take n a′)) ≤ length buffer
+    record-fits =
+        omega (
+          arith,
+          ap length front-record,
+          encode-size (formOf theWord),
+          form-sum theWord,
+          word-fit .roomy,
+          same-length,
+        )
+
+    -- The record writer takes them.
+    pub writer-accepts : encoded (take n b′) (take n a′) (length buffer) ≡ accepted (recordOfWord theWord)
+    writer-accepts =
+        simp (
+          le-ltb (suc limit) (length (take n b′)) (front-length bSide b b′ eb),
+          le-ltb (suc limit) (length (take n a′)) (front-length aSide a a′ ea),
+          le-ltb (length buffer) (length (recordOf (take n b′) (take n a′))) record-fits,
+        )
+        (ap accepted front-record)
+
+    -- What the word's call comes to.
+    pub word-written : (buffer′ : List ℕ) (r : Encoding) (k : ℕ) → k ≡ bytesWritten r
+        → Encoded (take n b′) (take n a′) buffer buffer′ r
+        → WordWritten word (memory b a buffer) (memory b′ a′ buffer′) k
+    word-written buffer′ r k e w =
+        let so = h .accepts .judged-so in
+        let count = e ∙ bytes-written r (length (recordOfWord theWord))
+        (w .result ∙ ap (λ (o : Outcome (List ℕ)). valued length o) writer-accepts) in
+        record {
+          result = ap accepted count ∙ sym (ap (λ (o : Outcome Word). recorded o) so);
+          leaves = record {
+            b-table = engine-table bSide b b′ eb ∙ sym (ap (λ (o : Outcome Word). tableAfter bSide o b) so);
+            a-table = engine-table aSide a a′ ea ∙ sym (ap (λ (o : Outcome Word). tableAfter aSide o a) so);
+            bytes =
+                w .bytes
+                ∙ ap (λ (o : Outcome (List ℕ)). after o buffer (λ l. sets buffer 0 l)) writer-accepts
+                ∙ sym (ap (λ (o : Outcome Word). bufferAfter o buffer) so);
+          };
+        }

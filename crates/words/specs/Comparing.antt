@@ -1,0 +1,72 @@
+-- Two words (01, 'What the desk can be asked'): same or different by their records. The first word's refusals come
+-- first, and a refusal names which word; on a refusal nothing that was lent for either word is altered.
+--     Decision   the verdict, or the word (0 or 1) with number and place      Compared   the contract of `same_element`
+-- Assumes nothing.
+use mathlib.Core.Path.{_≡_}
+use mathlib.Core.Bool.{Bool, true, false, cond}
+use mathlib.Core.List.{List, [], _∷_}
+use Prim.Native.Nat.{ℕ}
+use lib.ListN.{take}
+use lib.Dec.{eqb}
+use Rattle.group.specs.Letters.{Word}
+use Rattle.refusals.specs.Refusals.{numberOf, placeOf}
+use Rattle.refusals.specs.Outcomes.{Outcome, accepted, refused}
+use Rattle.words.specs.declared.Comparison.{Comparison}
+use Rattle.words.specs.declared.Comparison.the-variants.{Same, Different, First, Second}
+use Rattle.words.specs.Recording.{recordOfWord, Memory, judgedWith, Left, WordWritten}
+
+-- What the call comes to.
+pub data Decision : Type 0 where
+  same different : Decision
+  refusedWord : (word number place : ℕ) → Decision
+
+-- The decision of each answer.
+abbrev pub decisionOf : Comparison → Decision
+decisionOf Same = same
+decisionOf Different = different
+decisionOf (First r) = refusedWord 0 (numberOf r) (placeOf r)
+decisionOf (Second r) = refusedWord 1 (numberOf r) (placeOf r)
+
+-- As many bytes, and the same byte at each place.
+unfoldable pub sameBytes : List ℕ → List ℕ → Bool
+sameBytes [] [] = true
+sameBytes [] (y ∷ t) = false
+sameBytes (x ∷ s) [] = false
+sameBytes (x ∷ s) (y ∷ t) = cond (eqb x y) (sameBytes s t) false
+
+-- The first word's refusal, then the second's, then the verdict by the records.
+abbrev pub decided : Outcome Word → Outcome Word → Decision
+decided (refused number place) second = refusedWord 0 number place
+decided (accepted u) (refused number place) = refusedWord 1 number place
+decided (accepted u) (accepted v) = cond (sameBytes (recordOfWord u) (recordOfWord v)) same different
+
+-- A word's own outcome, where the other word is accepted too; else a refusal.
+abbrev pub beside : Outcome Word → Outcome Word → Outcome Word
+beside own (accepted v) = own
+beside own (refused number place) = refused number place
+
+-- The answer and what is left of both memories, by the outcomes of the two words.
+pub record ComparedBy (first second : Outcome Word) (entry1 exit1 entry2 exit2 : Memory) (r : Comparison) : Type 0 where
+  pub result : decisionOf r ≡ decided first second
+  pub leaves1 : Left (beside first second) entry1 exit1
+  pub leaves2 : Left (beside second first) entry2 exit2
+
+-- For any two words and whatever is lent with them.
+abbrev pub Compared : (word1 : List ℕ) (entry1 exit1 : Memory) (word2 : List ℕ) (entry2 exit2 : Memory) → Comparison
+    → Type 0
+Compared word1 entry1 exit1 word2 entry2 exit2 r =
+    ComparedBy (judgedWith word1 entry1) (judgedWith word2 entry2) entry1 exit1 entry2 exit2 r
+
+-- The answer says whether two lists are the same.
+pub record SameBytes (s t : List ℕ) (r : Bool) : Type 0 where
+  pub same-if : r ≡ true → s ≡ t
+  pub if-same : s ≡ t → r ≡ true
+
+-- Both words were written: the answer is whether their records are the same.
+pub record TwoWritten (word1 : List ℕ) (entry1 exit1 : Memory) (word2 : List ℕ) (entry2 exit2 : Memory) (r : Bool)
+    : Type 0 where
+  pub first : ℕ
+  pub second : ℕ
+  pub written1 : WordWritten word1 entry1 exit1 first
+  pub written2 : WordWritten word2 entry2 exit2 second
+  pub says : SameBytes (take first (exit1 .buffer)) (take second (exit2 .buffer)) r

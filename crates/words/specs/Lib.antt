@@ -1,0 +1,3 @@
+-- Word to record, and two words.
+pub mod Recording
+pub mod Comparing

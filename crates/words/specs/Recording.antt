@@ -1,0 +1,87 @@
+-- Word to record (01, 'What the desk can be asked', 'Who caused the refusal'): refusals 1, 2, 6 and 7 in this order;
+-- else the exponents of the word's reduced form in the tables and its record at the front of the buffer.
+--     judgedRecord   the word, or what is refused of it, the tables and the buffer
+--     tableAfter, bufferAfter   what is lent, at exit         Recorded   the contract of `word_to_record`
+-- Assumes nothing.
+use mathlib.Core.Path.{_≡_}
+use mathlib.Core.Bool.{cond}
+use mathlib.Core.List.{List}
+use Prim.Native.Nat.{ℕ}
+use lib.ListN.{length}
+use lib.Dec.{ltb}
+use lib.Seq.{sets}
+use Rattle.group.specs.Letters.{Word}
+use Rattle.group.specs.Forms.{bSide, aSide}
+use Rattle.group.specs.Products.{formOf}
+use Rattle.refusals.specs.Outcomes.{Outcome, accepted, refused, after, then, valued, writtenOf}
+use Rattle.refusals.specs.declared.Written.{Written}
+use Rattle.records.specs.Format.{encode, bufferSize}
+use Rattle.records.specs.declared.Encoding.{Encoding}
+use Rattle.records.specs.declared.Encoding.the-variants.{Bytes, Refused, Unfit}
+use Rattle.forest.specs.Judging.{judged}
+use Rattle.forest.specs.Filling.{cells, room, tableAfter}
+
+-- The record of a word.
+abbrev pub recordOfWord : Word → List ℕ
+recordOfWord w = encode (formOf w)
+
+-- The word that bytes are, beside tables and a buffer of these lengths, or its refusal: 1, 2 and 6, then 7, by the
+-- number of letters as they were sent.
+abbrev pub judgedRecord : (word : List ℕ) (nb na nr : ℕ) → Outcome Word
+judgedRecord word nb na nr =
+    then (judged word nb na) (λ w. cond (ltb nr (bufferSize (length word))) (refused 7 0) (accepted w))
+
+-- The buffer at exit: the record at its front, everything beyond unchanged.
+abbrev pub bufferAfter : Outcome Word → List ℕ → List ℕ
+bufferAfter o buffer = after o buffer (λ w. sets buffer 0 (recordOfWord w))
+
+-- The outcome of the call: the number of bytes of the record.
+abbrev pub recorded : Outcome Word → Outcome ℕ
+recorded o = valued (λ w. length (recordOfWord w)) o
+
+-- What is lent with one word, at entry or at exit: the b table, the a table and the record buffer.
+pub record Memory : Type 0 where
+  pub b : List ℕ
+  pub a : List ℕ
+  pub buffer : List ℕ
+
+abbrev pub memory : (b a buffer : List ℕ) → Memory
+memory b a buffer = record { b = b; a = a; buffer = buffer }
+
+-- The word beside the memory that is lent with it.
+abbrev pub judgedWith : List ℕ → Memory → Outcome Word
+judgedWith word m = judgedRecord word (length (m .b)) (length (m .a)) (length (m .buffer))
+
+-- The memory at exit, by the outcome.
+pub record Left (o : Outcome Word) (entry exit : Memory) : Type 0 where
+  pub b-table : exit .b ≡ tableAfter bSide o (entry .b)
+  pub a-table : exit .a ≡ tableAfter aSide o (entry .a)
+  pub bytes : exit .buffer ≡ bufferAfter o (entry .buffer)
+
+-- For every word and whatever is lent with it.
+pub record Recorded (word : List ℕ) (entry exit : Memory) (r : Written) : Type 0 where
+  pub result : writtenOf r ≡ recorded (judgedWith word entry)
+  pub leaves : Left (judgedWith word entry) entry exit
+
+-- The word is accepted beside its memory.
+pub record Accepts (word : List ℕ) (m : Memory) : Type 0 where
+  pub letters : Word
+  pub judged-so : judgedWith word m ≡ accepted letters
+
+-- An accepted word, its memory, and scratch of the engine's sizes and any content.
+pub record Ready (word : List ℕ) (m : Memory) (lefts rights stack : List ℕ) : Type 0 where
+  pub accepts : Accepts word m
+  pub lefts-length : length lefts ≡ cells
+  pub rights-length : length rights ≡ cells
+  pub stack-length : length stack ≡ room
+
+-- An accepted word was written: the answer is the number of bytes of its record.
+pub record WordWritten (word : List ℕ) (entry exit : Memory) (r : ℕ) : Type 0 where
+  pub result : accepted r ≡ recorded (judgedWith word entry)
+  pub leaves : Left (judgedWith word entry) entry exit
+
+-- The number of bytes of a record that was written.
+abbrev pub bytesWritten : Encoding → ℕ
+bytesWritten (Bytes n) = n
+bytesWritten (Refused r) = 0
+bytesWritten Unfit = 0
