@@ -1,0 +1,35 @@
+-- `thompson_word_to_record` meets its contract. Assumes nothing.
+use mathlib.Core.Path.{ap, _∙_}
+use Rattle.thompson.specs.Codes.{codeOf}
+use borrow.Author.Needs.{needs}
+use Rattle.thompson.proofs.thompson_word_to_record.Statement.{statement}
+use Rattle.thompson.proofs.thompson_word_to_record.Tie as tie
+
+word-to-record-requires : tie.Need-word-to-record-requires
+word-to-record-requires c κs = search needs
+
+from-written-requires : tie.Need-from-written-requires
+from-written-requires c κs = search needs
+
+same-length : tie.Need-same-length
+same-length c = search needs
+
+same-length-2 : tie.Need-same-length-2
+same-length-2 c = search needs
+
+same-length-3 : tie.Need-same-length-3
+same-length-3 c = search needs
+
+returns : tie.Need-returns
+returns c = let call = c .before .before .before .before .before .before .before .word-to-record .ensures in record { result = c .from-written .ensures ∙ ap codeOf (call .result); leaves = call .leaves }
+
+pub thompson-word-to-record-spec : {M : Type 1} → statement M
+thompson-word-to-record-spec =
+    tie.close
+    (tie.spec
+    word-to-record-requires
+    from-written-requires
+    same-length
+    same-length-2
+    same-length-3
+    returns)

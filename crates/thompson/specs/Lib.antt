@@ -1,0 +1,2 @@
+-- The answers of the exported calls.
+pub mod Codes

@@ -1,0 +1,133 @@
+// The calls for C and Rust. Each passes on to the proved call and answers two numbers: the refusal's number and place,
+// or 0 and the call's value. In the two-word call 256 is added to the number where the second word is refused.
+ghost use mathlib.Core.Path.{_≡_};
+ghost use Rattle.refusals.specs.Outcomes.{verdictOf, writtenOf, checked};
+ghost use Rattle.records.specs.Reading.{decode};
+ghost use Rattle.words.specs.Recording.{memory};
+ghost use Rattle.words.specs.Comparing.{decisionOf};
+ghost use Rattle.thompson.specs.Codes.{codeOf, codeOfDecision, ExportedRecord, ExportedComparison};
+use refusals::Refusal;
+use refusals::Verdict;
+use refusals::Written;
+use words::Comparison;
+
+// A refusal's number and place, or 0 and the call's value.
+#[repr(C)]
+pub struct Answer {
+    pub refusal: u64,
+    pub value: u64,
+}
+
+fn refused(r: Refusal) -> Answer
+    ensures { λ s. ⌜ s ≡ codeOf (Rattle.refusals.specs.Outcomes.refusal r) ⌝ }
+{
+    Answer {
+        refusal: refusals::number(r) as u64,
+        value: refusals::place(r) as u64,
+    }
+}
+
+fn from_verdict(v: Verdict) -> Answer
+    ensures { λ s. ⌜ s ≡ codeOf (verdictOf v) ⌝ }
+{
+    match v {
+        Verdict::Accepted => Answer {
+            refusal: 0,
+            value: 0,
+        },
+        Verdict::Refused(r) => refused(r),
+    }
+}
+
+fn from_written(w: Written) -> Answer
+    ensures { λ s. ⌜ s ≡ codeOf (writtenOf w) ⌝ }
+{
+    match w {
+        Written::Bytes(n) => Answer {
+            refusal: 0,
+            value: n as u64,
+        },
+        Written::Refused(r) => refused(r),
+    }
+}
+
+// A refusal of the second word.
+fn second(r: Refusal) -> Answer
+    ensures { λ s. ⌜ s ≡ codeOfDecision (decisionOf (Comparison.Second r)) ⌝ }
+{
+    Answer {
+        refusal: refusals::number(r) as u64 + 256,
+        value: refusals::place(r) as u64,
+    }
+}
+
+fn from_comparison(c: Comparison) -> Answer
+    ensures { λ s. ⌜ s ≡ codeOfDecision (decisionOf c) ⌝ }
+{
+    match c {
+        Comparison::Same => Answer {
+            refusal: 0,
+            value: 1,
+        },
+        Comparison::Different => Answer {
+            refusal: 0,
+            value: 0,
+        },
+        Comparison::First(r) => refused(r),
+        Comparison::Second(r) => second(r),
+    }
+}
+
+// Word to record; the value is the number of bytes written.
+#[no_mangle]
+pub extern "C" fn thompson_word_to_record(
+    word: &[u8],
+    b_table: &mut [u16],
+    a_table: &mut [u16],
+    record: &mut [u8],
+) -> Answer
+    ensures { λ r. ⌜ ExportedRecord (now (word .entry))
+        (memory (now («b_table» .entry)) (now («a_table» .entry)) (now («record» .entry)))
+        (memory (now («b_table» .exit)) (now («a_table» .exit)) (now («record» .exit))) r ⌝ }
+{
+    from_written(words::word_to_record(word, b_table, a_table, record))
+}
+
+// Record check; the value is 0.
+#[no_mangle]
+pub extern "C" fn thompson_check_record(record: &[u8]) -> Answer
+    ensures { λ r. ⌜ r ≡ codeOf (checked (decode (now («record» .entry)))) ⌝ }
+{
+    from_verdict(records::check_record(record))
+}
+
+// Two words; the value is 1 where they are the same element, and 0 where they are not.
+#[no_mangle]
+pub extern "C" fn thompson_same_element(
+    word1: &[u8],
+    b_table1: &mut [u16],
+    a_table1: &mut [u16],
+    record1: &mut [u8],
+    word2: &[u8],
+    b_table2: &mut [u16],
+    a_table2: &mut [u16],
+    record2: &mut [u8],
+) -> Answer
+    ensures { λ r. ⌜ ExportedComparison (now (word1 .entry))
+        (memory (now («b_table1» .entry)) (now («a_table1» .entry)) (now (record1 .entry)))
+        (memory (now («b_table1» .exit)) (now («a_table1» .exit)) (now (record1 .exit)))
+        (now (word2 .entry))
+        (memory (now («b_table2» .entry)) (now («a_table2» .entry)) (now (record2 .entry)))
+        (memory (now («b_table2» .exit)) (now («a_table2» .exit)) (now (record2 .exit))) r ⌝ }
+{
+    from_comparison(words::same_element(
+        word1,
+        b_table1,
+        a_table1,
+        record1,
+        word2,
+        b_table2,
+        a_table2,
+        record2,
+    ))
+}
