@@ -1,54 +1,94 @@
--- The demands of the papers on words and their forms. Each claim is a type; proofs/Demands.antt has its proof, under
--- the same name in small letters with hyphens. What the claims speak of, with the file of group/specs that defines it:
---     Word              a string of the letters a, A, b, B, of any length                         Letters
---     Joined u v        a chain of steps, each with one of eight strings, leads from u to v       Chains
---     SameMap u v       u and v move every dyadic point from 0 to 1 alike, rightmost letter first Maps
---     Form              x0^b0 … xn^bn xn^−an … x0^−a0, by its levels (b_i, a_i)                   Forms
---     exponent s f i    b_i (the Side s is bSide) or a_i (s is aSide)                             Forms
---     SameExponents f g the same b_i and a_i at every i                                           Forms
---     exponentSum f     the number of letters x_k and x_k⁻¹ of f                                  Forms
---     letters f         f written out: each power of an x_k, in order, by the letters of x_k      Forms
---     Trimmed f         the last level is not (0, 0), so that equal exponents are equal forms     Forms
---     Reduced f         where a_i and b_i are above 0, so is a_(i+1) or b_(i+1)                   Reducing
---     formOf w          the form worked out for the word w, letter by letter                      Products
--- Demand 1 is about refusals, and comes with the calls that refuse. Assumes nothing.
+-- The demands of the papers on the calls, over the calls' own contracts. Each claim is a type; proofs/Demands.antt has
+-- its proof, under the same name in small letters with hyphens. What the claims speak of, and where it is defined:
+--     Recorded u m m′ r    the contract of word_to_record: the bytes u, the memory lent with them
+--                          (b table, a table, record buffer) at entry and at exit, the answer       words, Recording
+--     Compared …           the contract of same_element, for two words                           words, Comparing
+--     decode s             what check_record's contract says of the bytes s                      records, Reading
+--     writtenOf, verdictOf, decisionOf   each answer as accepted, with its value, or refused,
+--                          with number and place (and the word, 0 or 1)          refusals, Outcomes; words, Comparing
+--     bytesOf w            the word w as bytes, one a letter                                     group, Bytes
+--     Joined u v           a chain of steps, each with one of eight strings, joins u to v        group, Chains
+--     SameMap u v          u and v move every dyadic point from 0 to 1 alike                     group, Maps
+--     Reduced f, letters f the reduced form's clause; a form written out in letters              group, Reducing, Forms
+--     exponent s f i       b_i (the Side s is bSide) or a_i (s is aSide)                         group, Forms
+--     WordRefusal, NoWordRefusal, RecordRefusal   the refusals, by their literal conditions      Refusals
+--     Bytes s              every element of s is a byte                                          records, Faults
+-- Assumes nothing.
 use mathlib.Core.Path.{_≡_}
+use mathlib.Core.List.{List}
 use mathlib.Core.Logic.{_↔_}
-use Prim.Native.Nat.{ℕ, _<_, _≤_}
-use lib.ListN.{length}
+use Prim.Native.Nat.{ℕ, _+_, _≤_}
+use lib.ListN.{length, take, drop, getD}
 use Rattle.group.specs.Letters.{Word}
+use Rattle.group.specs.Bytes.{bytesOf}
 use Rattle.group.specs.Chains.{Joined}
 use Rattle.group.specs.Maps.{SameMap}
-use Rattle.group.specs.Forms.{Side, Form, exponent, SameExponents, Trimmed, exponentSum, letters}
+use Rattle.group.specs.Forms.{bSide, aSide, Form, exponent, letters}
 use Rattle.group.specs.Reducing.{Reduced}
-use Rattle.group.specs.Products.{formOf}
+use Rattle.refusals.specs.Outcomes.{accepted, refused, checked, verdictOf, writtenOf}
+use Rattle.refusals.specs.declared.Verdict.{Verdict}
+use Rattle.refusals.specs.declared.Written.{Written}
+use Rattle.records.specs.Reading.{decode}
+use Rattle.records.specs.Faults.{Bytes}
+use Rattle.words.specs.Recording.{Memory, Recorded}
+use Rattle.words.specs.Comparing.{Compared, decisionOf, same, different, refusedWord}
+use Rattle.words.specs.declared.Comparison.{Comparison}
+use Rattle.claims.specs.Refusals.{WordRefusal, NoWordRefusal, RecordRefusal}
 
--- Demand 2: the form of a word is reduced, and moves every dyadic point from 0 to 1, both ends too, as the word does.
--- It is also trimmed, and its letters are joined to the word.
-pub record FormKeepsMap : Type 0 where
-  pub reduced : (w : Word) → Reduced (formOf w)
-  pub same-map : (w : Word) → SameMap (letters (formOf w)) w
-  pub trimmed : (w : Word) → Trimmed (formOf w)
-  pub joined : (w : Word) → Joined (letters (formOf w)) w
+-- Demand 1: each refusal is given under its condition and at no other time, and alters nothing.
+pub record RefusalsOfWords : Type 0 where
+  pub refused-just-when : (u : List ℕ) (m m′ : Memory) (r : Written) → Recorded u m m′ r → (n p : ℕ)
+      → (writtenOf r ≡ refused n p) ↔ WordRefusal u m n p
+  pub accepted-just-when : (u : List ℕ) (m m′ : Memory) (r : Written) → Recorded u m m′ r
+      → ((n : ℕ) × (writtenOf r ≡ accepted n)) ↔ NoWordRefusal u m
+  pub nothing-altered : (u : List ℕ) (m m′ : Memory) (r : Written) → Recorded u m m′ r → (n p : ℕ)
+      → writtenOf r ≡ refused n p → m′ ≡ m
 
--- Demand 3: two words have equal forms just when a chain joins them.
-abbrev pub EqualFormsAreJoined : Type 0
-EqualFormsAreJoined = (u v : Word) → (formOf u ≡ formOf v) ↔ Joined u v
+pub record RefusalsOfRecords : Type 0 where
+  pub refused-just-when : (s : List ℕ) (r : Verdict) → Bytes s → verdictOf r ≡ checked (decode s) → (n p : ℕ)
+      → (verdictOf r ≡ refused n p) ↔ RecordRefusal s n p
 
--- Two words have equal forms just when they have the same map.
-abbrev pub EqualFormsAreOneMap : Type 0
-EqualFormsAreOneMap = (u v : Word) → (formOf u ≡ formOf v) ↔ SameMap u v
+pub record RefusalsOfTwoWords : Type 0 where
+  pub first-just-when : (u v : List ℕ) (m m′ k k′ : Memory) (c : Comparison) → Compared u m m′ v k k′ c → (n p : ℕ)
+      → (decisionOf c ≡ refusedWord 0 n p) ↔ WordRefusal u m n p
+  pub second-just-when : (u v : List ℕ) (m m′ k k′ : Memory) (c : Comparison) → Compared u m m′ v k k′ c → (n p : ℕ)
+      → (decisionOf c ≡ refusedWord 1 n p) ↔ (NoWordRefusal u m × WordRefusal v k n p)
+  pub nothing-altered : (u v : List ℕ) (m m′ k k′ : Memory) (c : Comparison) → Compared u m m′ v k k′ c
+      → (word n p : ℕ) → decisionOf c ≡ refusedWord word n p → (m′ ≡ m) × (k′ ≡ k)
 
--- Uniqueness: reduced forms with the same map have the same exponents.
-abbrev pub ReducedFormIsUnique : Type 0
-ReducedFormIsUnique = (f g : Form) → Reduced f → Reduced g → SameMap (letters f) (letters g) → SameExponents f g
+-- Demand 2, of word to record: the bytes of an accepted word are those of one word; the record that is written for it
+-- is the record of a reduced form with the word's map, and the tables hold that form's exponents.
+pub record KeptMap (m m′ : Memory) (n : ℕ) (w : Word) : Type 0 where
+  pub form : Form
+  pub reads : decode (take n (m′ .buffer)) ≡ accepted form
+  pub reduced : Reduced form
+  pub same-map : SameMap (letters form) w
+  pub b-table : (i : ℕ) → i ≤ length w → getD (m′ .b) i 0 ≡ exponent bSide form i
+  pub a-table : (i : ℕ) → i ≤ length w → getD (m′ .a) i 0 ≡ exponent aSide form i
+  pub beyond :
+      (drop (length w + 1) (m′ .b) ≡ drop (length w + 1) (m .b))
+      × (drop (length w + 1) (m′ .a) ≡ drop (length w + 1) (m .a))
+      × (drop n (m′ .buffer) ≡ drop n (m .buffer))
 
--- A trimmed reduced form that has the map of w, or letters joined to w, is the form of w, however it was found.
-pub record TheFormOfWord : Type 0 where
-  pub by-map : (w : Word) (f : Form) → Reduced f → Trimmed f → SameMap (letters f) w → f ≡ formOf w
-  pub by-chain : (w : Word) (f : Form) → Reduced f → Trimmed f → Joined (letters f) w → f ≡ formOf w
+pub record RecordKeepsMap : Type 0 where
+  pub is-word : (u : List ℕ) (m m′ : Memory) (r : Written) (n : ℕ) → Recorded u m m′ r → writtenOf r ≡ accepted n
+      → (w : Word) × (u ≡ bytesOf w)
+  pub keeps-map : (u : List ℕ) (m m′ : Memory) (r : Written) (n : ℕ) (w : Word) → Recorded u m m′ r
+      → writtenOf r ≡ accepted n → u ≡ bytesOf w → KeptMap m m′ n w
 
--- A word of n letters has a form with at most n letters x_k and x_k⁻¹, and no index above n.
-pub record FormIsSmall : Type 0 where
-  pub at-most-n : (w : Word) → exponentSum (formOf w) ≤ length w
-  pub no-index-above : (w : Word) (s : Side) (i : ℕ) → length w < i → exponent s (formOf w) i ≡ 0
+-- Demand 3: two accepted words have equal records, as many bytes and the same byte at each place, just when a chain
+-- joins them, whatever the lent memory held.
+abbrev pub EqualRecordsAreJoined : Type 0
+EqualRecordsAreJoined =
+    (u v : List ℕ) (m m′ k k′ : Memory) (r s : Written) (n l : ℕ) (w x : Word)
+    → Recorded u m m′ r → writtenOf r ≡ accepted n → u ≡ bytesOf w
+    → Recorded v k k′ s → writtenOf s ≡ accepted l → v ≡ bytesOf x
+    → ((n ≡ l) × (take n (m′ .buffer) ≡ take l (k′ .buffer))) ↔ Joined w x
+
+-- The two-word call decides it.
+pub record SameIsJoined : Type 0 where
+  pub same-just-when : (u v : List ℕ) (m m′ k k′ : Memory) (c : Comparison) (w x : Word) → Compared u m m′ v k k′ c
+      → NoWordRefusal u m → u ≡ bytesOf w → NoWordRefusal v k → v ≡ bytesOf x → (decisionOf c ≡ same) ↔ Joined w x
+  pub else-different : (u v : List ℕ) (m m′ k k′ : Memory) (c : Comparison) (w x : Word) → Compared u m m′ v k k′ c
+      → NoWordRefusal u m → u ≡ bytesOf w → NoWordRefusal v k → v ≡ bytesOf x → (Joined w x → ⊥)
+      → decisionOf c ≡ different

@@ -1,4 +1,6 @@
 -- The demands of the papers as claims: start with Demands.
+pub mod Refusals
 pub mod Demands
+pub mod Forms
 pub mod Sentences
 pub mod Worked

@@ -1,10 +1,12 @@
--- The rows of 01, 'Worked at the desk', that are marked P and concern forms, as one claim, and that the relators are
--- the strings that 01 prints. Pairs (i, e) are an index and its exponent, as in 01; a form is written by its levels,
--- `level b_0 a_0 (level b_1 a_1 …)`. Records, N, lengths and spellings come with the calls that give them.
+-- The rows of 01, 'Worked at the desk', that are marked P and concern forms and records, as one claim, and that the
+-- relators are the strings that 01 prints. Pairs (i, e) are an index and its exponent, as in 01; a form is written by
+-- its levels, `level b_0 a_0 (level b_1 a_1 …)`, a record byte by byte, as the fields of its two sides.
+-- N, lengths and spellings come with the calls that give them.
 -- Assumes nothing.
 use mathlib.Core.Path.{_≡_}
-use mathlib.Core.List.{[], _∷_}
+use mathlib.Core.List.{List, [], _∷_}
 use mathlib.Core.Option.{Option, none, some}
+use Prim.Native.Nat.{ℕ}
 use Prim.Native.String.{String}
 use Rattle.group.specs.Letters.{'b, Word}
 use Rattle.group.specs.Chains.{relator1, relator2}
@@ -13,6 +15,10 @@ use Rattle.group.specs.Forms.{Form, empty, level, letters}
 use Rattle.group.specs.Reducing.{Reduced, Applies}
 use Rattle.group.specs.Products.{formOf}
 use Rattle.group.specs.Texts.{wordOf}
+use Rattle.refusals.specs.Outcomes.{refused}
+use Rattle.records.specs.Format.{encode}
+use Rattle.records.specs.Reading.{decode}
+use Rattle.records.specs.Faults.{formRead}
 
 -- The form of a word that is there.
 abbrev pub formOfSome : Option Word → Option Form
@@ -22,6 +28,29 @@ formOfSome (some w) = some (formOf w)
 -- The text is a word, and f is the form of that word.
 abbrev pub HasForm : String → Form → Type 0
 HasForm s f = formOfSome (wordOf s) ≡ some f
+
+-- The record of a word that is there.
+abbrev pub recordOfSome : Option Word → Option (List ℕ)
+recordOfSome none = none
+recordOfSome (some w) = some (encode (formOf w))
+
+-- The text is a word, and the bytes are the record of that word.
+abbrev pub HasRecord : String → List ℕ → Type 0
+HasRecord s bytes = recordOfSome (wordOf s) ≡ some bytes
+
+-- The fields of 01's records: 01 and 02 hex, the length in two bytes, and entries of four bytes.
+abbrev pub emptyRecord : List ℕ
+emptyRecord = 1 ∷ 0 ∷ 0 ∷ 2 ∷ 0 ∷ 0 ∷ []
+
+abbrev pub oneEntry : (index exponent : ℕ) → List ℕ
+oneEntry i e = 1 ∷ 0 ∷ 4 ∷ 0 ∷ i ∷ 0 ∷ e ∷ 2 ∷ 0 ∷ 0 ∷ []
+
+abbrev pub twoEntries : (index exponent index′ exponent′ : ℕ) → List ℕ
+twoEntries i e j d = 1 ∷ 0 ∷ 8 ∷ 0 ∷ i ∷ 0 ∷ e ∷ 0 ∷ j ∷ 0 ∷ d ∷ 2 ∷ 0 ∷ 0 ∷ []
+
+-- The record with b side (0,1), (2,1) and a side (0,1).
+abbrev pub unreducedRecord : List ℕ
+unreducedRecord = 1 ∷ 0 ∷ 8 ∷ 0 ∷ 0 ∷ 0 ∷ 1 ∷ 0 ∷ 2 ∷ 0 ∷ 1 ∷ 2 ∷ 0 ∷ 4 ∷ 0 ∷ 0 ∷ 0 ∷ 1 ∷ []
 
 -- x_1, x_2 and x_3: (1,1), (2,1), (3,1) on the b side.
 abbrev pub x1 : Form
@@ -59,6 +88,19 @@ pub record Worked : Type 0 where
   pub row-unreduced : Reduced unreduced → ⊥
   pub row-unreduced-place : Applies 0 unreduced
   pub row-unreduced-map : SameMap (letters unreduced) ('b ∷ [])
+  -- the records: the empty one three times, x_1, x_2, x_3 twice, (0,1), (2,1) and (0,1), (1,1)
+  pub record-empty : HasRecord "" emptyRecord
+  pub record-aBbA : HasRecord "aBbA" emptyRecord
+  pub record-aBAbabAABa : HasRecord "aBAbabAABa" emptyRecord
+  pub record-b : HasRecord "b" (oneEntry 1 1)
+  pub record-Aba : HasRecord "Aba" (oneEntry 2 1)
+  pub record-BAbab : HasRecord "BAbab" (oneEntry 3 1)
+  pub record-AAbaa : HasRecord "AAbaa" (oneEntry 3 1)
+  pub record-ba : HasRecord "ba" (twoEntries 0 1 2 1)
+  pub record-ab : HasRecord "ab" (twoEntries 0 1 1 1)
+  -- the record that is not reduced: refusal 5, place 0, and the form that it is read as has the map of b
+  pub record-unreduced : decode unreducedRecord ≡ refused 5 0
+  pub record-unreduced-form : formRead unreducedRecord ≡ unreduced
   -- the dead end is reduced, and is the form of the word that 01 spells it by
   pub row-dead-end : Reduced deadEnd
   pub row-dead-end-word : HasForm "aabAAAAAbaaaB" deadEnd

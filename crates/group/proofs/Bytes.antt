@@ -13,7 +13,7 @@ use lib.ListN.{length, getD}
 use borrow.Author.Tests.{eqb-true}
 use Rattle.group.specs.Letters.{Letter, 'a, 'A, 'b, 'B, Word}
 use Rattle.group.specs.Texts.{letterOf}
-use Rattle.group.specs.Bytes.{byteOf, bytesOf, Reading, isWord, notLetter, readLetter, readWord}
+use Rattle.group.specs.Bytes.{byteOf, bytesOf, Reading, isWord, notLetter, readLetter, readWord, FirstNotLetter}
 
 letter-byte : (x : Letter) → letterOf (byteOf x) ≡ some x
 letter-byte 'a = refl
@@ -66,12 +66,6 @@ bytes-length (x ∷ w) = ap suc (bytes-length w)
 -- A word has a letter for each byte.
 pub read-length : (s : List ℕ) (w : Word) → readWord s ≡ isWord w → length s ≡ length w
 read-length s w h = ap length (word-read s w h) ∙ bytes-length w
-
--- The byte at k is no letter, and every byte before it is one.
-pub record FirstNotLetter (s : List ℕ) (k : ℕ) : Type 0 where
-  pub within : k < length s
-  pub here : letterOf (getD s k 0) ≡ none
-  pub before : (j : ℕ) → j < k → (x : Letter) × (letterOf (getD s j 0) ≡ some x)
 
 cons-first : (c : ℕ) (s : List ℕ) (k : ℕ) (o : Option Letter) (r : Reading) → letterOf c ≡ o
     → ((j : ℕ) → r ≡ notLetter j → FirstNotLetter s j) → readLetter o r ≡ notLetter k → FirstNotLetter (c ∷ s) k

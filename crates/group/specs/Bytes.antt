@@ -1,9 +1,12 @@
 -- Words as they are sent, one byte a letter (01, 'Letters and maps'). A byte that is no letter has no letter.
 --     bytesOf w     the bytes of a word             readWord s   the word that bytes are, or where they are none
+--     FirstNotLetter s k   the first byte that is no letter stands at offset k
 -- Assumes nothing.
+use mathlib.Core.Path.{_≡_}
 use mathlib.Core.List.{List, [], _∷_}
 use mathlib.Core.Option.{Option, none, some}
-use Prim.Native.Nat.{ℕ, suc}
+use Prim.Native.Nat.{ℕ, suc, _<_}
+use lib.ListN.{length, getD}
 use Rattle.group.specs.Letters.{Letter, 'a, 'A, 'b, 'B, Word}
 use Rattle.group.specs.Texts.{letterOf}
 
@@ -34,3 +37,9 @@ readLetter (some x) (notLetter offset) = notLetter (suc offset)
 unfoldable pub readWord : List ℕ → Reading
 readWord [] = isWord []
 readWord (c ∷ s) = readLetter (letterOf c) (readWord s)
+
+-- The byte at k is no letter, and every byte before it is one.
+pub record FirstNotLetter (s : List ℕ) (k : ℕ) : Type 0 where
+  pub within : k < length s
+  pub here : letterOf (getD s k 0) ≡ none
+  pub before : (j : ℕ) → j < k → (x : Letter) × (letterOf (getD s j 0) ≡ some x)

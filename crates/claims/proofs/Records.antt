@@ -1,0 +1,158 @@
+-- An accepted call of word to record: its word, its record, and what it leaves. Assumes nothing.
+use mathlib.Core.Path.{_≡_, refl, sym, ap, ap₂, _∙_}
+use mathlib.Core.List.{List, _++_}
+use mathlib.Core.Logic.{_↔_}
+use Prim.Native.Nat.{ℕ, _+_, _<_, _≤_}
+use native.Mathlib.Decide.{decLe}
+use native.Mathlib.Omega.{arith}
+use lib.ListN.{length, take, drop, getD}
+use lib.Seq.{sets, sets-eq, drop-at}
+use Rattle.lists.specs.Tables.{values, filled}
+use Rattle.lists.proofs.Tables.{values-length, filled-at}
+use Rattle.group.specs.Letters.{Word}
+use Rattle.group.specs.Bytes.{bytesOf}
+use Rattle.group.specs.Chains.{Joined}
+use Rattle.group.specs.Forms.{Side, bSide, aSide, exponent}
+use Rattle.group.specs.Products.{formOf}
+use Rattle.group.specs.Limits.{limit}
+use Rattle.group.proofs.Bytes.{read-length}
+use Rattle.group.proofs.Reduced.{form-canonical, form-reduced, form-trimmed}
+use Rattle.group.proofs.Sizes.{form-sum, form-index}
+use Rattle.group.proofs.Theorems.{form-map, forms↔joined}
+use Rattle.refusals.specs.Outcomes.{Outcome, accepted, refused, writtenOf}
+use Rattle.refusals.specs.declared.Written.{Written}
+use Rattle.refusals.proofs.Outcomes.{accepted-refused, accepted-same}
+use Rattle.records.specs.Format.{encode, Within}
+use Rattle.records.specs.Reading.{decode}
+use Rattle.records.proofs.ReadBack.{encode-injective}
+use Rattle.records.proofs.Accepted.{decode-encode}
+use Rattle.records.proofs.Lengths.{encode-size}
+use Rattle.forest.specs.Filling.{tableAfter}
+use Rattle.words.specs.Recording.{Memory, memory, judgedWith, recordOfWord, recorded, bufferAfter, Left, Recorded}
+use Rattle.words.specs.Recording.{Accepts, WordWritten}
+use Rattle.words.proofs.Judged.{RecordFit, accepted-record}
+use Rattle.words.proofs.Compared.{front-record}
+use Rattle.claims.specs.Demands.{KeptMap}
+use Rattle.claims.proofs.Refusals.{Judged, refuses, accepts, judge-word, judged-accepted}
+
+-- Nothing is altered where the outcome is a refusal.
+pub left-refused : {o : Outcome Word} {m m′ : Memory} (n p : ℕ) → o ≡ refused n p → Left o m m′ → m′ ≡ m
+left-refused {o} {m} {m′} n p e h =
+    ap₂ (λ (b a : List ℕ). memory b a (m′ .buffer))
+    (h .b-table ∙ ap (λ (q : Outcome Word). tableAfter bSide q (m .b)) e)
+    (h .a-table ∙ ap (λ (q : Outcome Word). tableAfter aSide q (m .a)) e)
+    ∙ ap (λ (l : List ℕ). memory (m .b) (m .a) l)
+    (h .bytes ∙ ap (λ (q : Outcome Word). bufferAfter q (m .buffer)) e)
+
+-- The form of an accepted word is within the limits.
+form-within : (w : Word) → length w ≤ limit → Within (formOf w)
+form-within w short = record {
+  indices = λ s i some. low s i some (decLe i (length w));
+  sum = omega (arith, form-sum w, short);
+}
+  where
+    low : (s : Side) (i : ℕ) → 0 < exponent s (formOf w) i → Dec (i ≤ length w) → i ≤ limit
+    low s i some (yes h) = omega (arith, h, short)
+    low s i some (no h) = absurd (omega (arith, form-index w s i (omega (arith, h)), some))
+
+-- A word that was judged good has at most as many letters as the limit.
+judged-within : (u : List ℕ) (m : Memory) (w : Word) → judgedWith u m ≡ accepted w → length w ≤ limit
+judged-within u m w e =
+    let fit = accepted-record u (length (m .b)) (length (m .a)) (length (m .buffer)) w e in
+    omega (arith, fit .fit .short, read-length u w (fit .fit .reads))
+
+-- Two accepted words have one record just when a chain joins them.
+pub records↔joined : (u v : List ℕ) (m k : Memory) (w x : Word) → judgedWith u m ≡ accepted w
+    → judgedWith v k ≡ accepted x → (recordOfWord w ≡ recordOfWord x) ↔ Joined w x
+records↔joined u v m k w x e f = (
+  (λ same.
+      forms↔joined w x .0
+      (encode-injective (formOf w) (formOf x) (form-trimmed w) (form-within w (judged-within u m w e))
+      (form-trimmed x) (form-within x (judged-within v k x f)) same)),
+  (λ j. ap encode (forms↔joined w x .1 j)),
+)
+
+-- An accepted call, its word and its record.
+pub record CallOf (u : List ℕ) (m m′ : Memory) (n : ℕ) : Type 0 where
+  pub word : Word
+  pub bytes : u ≡ bytesOf word
+  pub judged-so : judgedWith u m ≡ accepted word
+
+pub call-of : {u : List ℕ} {m m′ : Memory} {r : Written} {n : ℕ} → Recorded u m m′ r → writtenOf r ≡ accepted n
+    → CallOf u m m′ n
+call-of {u} {m} {m′} {r} {n} h e = go (judge-word u m)
+  where
+    go : Judged u m → CallOf u m m′ n
+    go (refuses k p c j) = absurd (accepted-refused (sym e ∙ h .result ∙ ap (λ (o : Outcome Word). recorded o) j))
+    go (accepts w b c j) = record { word = w; bytes = b; judged-so = j }
+
+-- The same for the word that the bytes are.
+pub record FrontOf (u : List ℕ) (m m′ : Memory) (n : ℕ) (w : Word) : Type 0 where
+  pub judged-so : judgedWith u m ≡ accepted w
+  pub count : n ≡ length (recordOfWord w)
+  pub front : take n (m′ .buffer) ≡ recordOfWord w
+
+pub call-front : {u : List ℕ} {m m′ : Memory} {r : Written} {n : ℕ} {w : Word} → Recorded u m m′ r
+    → writtenOf r ≡ accepted n → u ≡ bytesOf w → FrontOf u m m′ n w
+call-front {u} {m} {m′} {r} {n} {w} h e b = go (judge-word u m)
+  where
+    written : WordWritten u m m′ n
+    written = record { result = sym e ∙ h .result; leaves = h .leaves }
+
+    go : Judged u m → FrontOf u m m′ n w
+    go (refuses k p c j) = absurd (accepted-refused (sym e ∙ h .result ∙ ap (λ (o : Outcome Word). recorded o) j))
+    go (accepts v a c j) =
+        let so = judged-accepted u m w c b in
+        let front = front-record u m m′ n (record { letters = w; judged-so = so }) written in
+        record { judged-so = so; count = front .0; front = front .1 }
+
+-- Its record lies inside the buffer.
+record-fits : (u : List ℕ) (m : Memory) (w : Word) → judgedWith u m ≡ accepted w
+    → 0 + length (recordOfWord w) ≤ length (m .buffer)
+record-fits u m w so =
+    let fit = accepted-record u (length (m .b)) (length (m .a)) (length (m .buffer)) w so in
+    omega (arith, encode-size (formOf w), form-sum w, fit .roomy, read-length u w (fit .fit .reads))
+
+-- The table of an accepted word.
+table-at : (w : Word) (s : Side) (t t′ : List ℕ) → t′ ≡ filled (length w + 1) (exponent s (formOf w)) t → (i : ℕ)
+    → i ≤ length w → getD t′ i 0 ≡ exponent s (formOf w) i
+table-at w s t t′ e i le =
+    ap (λ (l : List ℕ). getD l i 0) e
+    ∙ filled-at (length w + 1) (exponent s (formOf w)) t i (omega (arith, le))
+
+table-beyond : (w : Word) (s : Side) (t t′ : List ℕ) → t′ ≡ filled (length w + 1) (exponent s (formOf w)) t
+    → drop (length w + 1) t′ ≡ drop (length w + 1) t
+table-beyond w s t t′ e =
+    ap (drop (length w + 1)) e
+    ∙ drop-at (values (length w + 1) (exponent s (formOf w))) (drop (length w + 1) t) (length w + 1)
+    (values-length (length w + 1) (exponent s (formOf w)))
+
+pub call-keeps-map : {u : List ℕ} {m m′ : Memory} {r : Written} {n : ℕ} {w : Word} → Recorded u m m′ r
+    → writtenOf r ≡ accepted n → u ≡ bytesOf w → KeptMap m m′ n w
+call-keeps-map {u} {m} {m′} {r} {n} {w} h e b =
+    let call = call-front h e b in
+    let so = call .judged-so in
+    let tb : m′ .b ≡ filled (length w + 1) (exponent bSide (formOf w)) (m .b) =
+    h .leaves .b-table ∙ ap (λ (o : Outcome Word). tableAfter bSide o (m .b)) so in
+    let ta : m′ .a ≡ filled (length w + 1) (exponent aSide (formOf w)) (m .a) =
+    h .leaves .a-table ∙ ap (λ (o : Outcome Word). tableAfter aSide o (m .a)) so in
+    let fits : 0 + length (recordOfWord w) ≤ length (m .buffer) = record-fits u m w so in
+    record {
+      form = formOf w;
+      reads =
+          ap decode (call .front) ∙ decode-encode (formOf w) (form-canonical w) (form-within w (judged-within u m w so));
+      reduced = form-reduced w;
+      same-map = form-map w;
+      b-table = table-at w bSide (m .b) (m′ .b) tb;
+      a-table = table-at w aSide (m .a) (m′ .a) ta;
+      beyond = (
+        table-beyond w bSide (m .b) (m′ .b) tb,
+        table-beyond w aSide (m .a) (m′ .a) ta,
+        ap (drop n)
+            (h .leaves .bytes
+            ∙ ap (λ (o : Outcome Word). bufferAfter o (m .buffer)) so
+            ∙ sets-eq (recordOfWord w) (m .buffer) 0 fits)
+            ∙ drop-at (recordOfWord w) (drop (0 + length (recordOfWord w)) (m .buffer)) n (sym (call .count))
+            ∙ ap (λ (k : ℕ). drop k (m .buffer)) (let z : 0 + length (recordOfWord w) ≡ n = omega (arith, call .count) in z),
+      );
+    }

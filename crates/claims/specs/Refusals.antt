@@ -1,0 +1,55 @@
+-- The refusals of words and records (01, 'Who caused the refusal'): for each its number, its place and its condition,
+-- given where no earlier one of its order holds. For words the order is 1, 2, 6, 7; for records 3, 4, 5.
+--     WordRefusal u m n p    of the bytes u as a word, with the memory m lent: number n, place p
+--     RecordRefusal s n p    of the bytes s as a record
+-- Assumes nothing.
+use mathlib.Core.Path.{_≡_}
+use mathlib.Core.List.{List}
+use mathlib.Core.Logic.{_⊎_}
+use Prim.Native.Nat.{ℕ, _+_, _*_, _<_}
+use lib.ListN.{length}
+use Rattle.group.specs.Bytes.{FirstNotLetter}
+use Rattle.group.specs.Limits.{limit}
+use Rattle.records.specs.Format.{baseSize}
+use Rattle.records.specs.Faults.{Framed, recordEntries, Sound, FirstFault, formRead, FirstBreak}
+use Rattle.words.specs.Recording.{Memory}
+
+-- 1: more letters than the limit; bytes are counted.
+abbrev pub Long : List ℕ → Type 0
+Long u = limit < length u
+
+-- 2: a byte that is no letter; the offset is that of the first.
+abbrev pub Unlettered : List ℕ → Type 0
+Unlettered u = (k : ℕ) × FirstNotLetter u k
+
+-- 6: a table with fewer entries than there are letters, and one.
+abbrev pub ShortTable : List ℕ → Memory → Type 0
+ShortTable u m = (length (m .b) < length u + 1) ⊎ (length (m .a) < length u + 1)
+
+-- 7: a record buffer with fewer bytes than 6 and four times the letters.
+abbrev pub ShortBuffer : List ℕ → Memory → Type 0
+ShortBuffer u m = length (m .buffer) < baseSize + 4 * length u
+
+-- What is refused of a word and of what is lent with it.
+pub data WordRefusal (u : List ℕ) (m : Memory) (number place : ℕ) : Type 0 where
+  long : number ≡ 1 → place ≡ limit → Long u → WordRefusal u m number place
+  unlettered : number ≡ 2 → (Long u → ⊥) → FirstNotLetter u place → WordRefusal u m number place
+  shortTable : number ≡ 6 → place ≡ 0 → (Long u → ⊥) → (Unlettered u → ⊥) → ShortTable u m
+      → WordRefusal u m number place
+  shortBuffer : number ≡ 7 → place ≡ 0 → (Long u → ⊥) → (Unlettered u → ⊥) → (ShortTable u m → ⊥) → ShortBuffer u m
+      → WordRefusal u m number place
+
+-- None of the four conditions holds.
+pub record NoWordRefusal (u : List ℕ) (m : Memory) : Type 0 where
+  pub not-long : Long u → ⊥
+  pub lettered : Unlettered u → ⊥
+  pub long-tables : ShortTable u m → ⊥
+  pub long-buffer : ShortBuffer u m → ⊥
+
+-- What is refused of a record: 3, the fields do not frame it; 4, the offset of the first faulty entry; 5, the smallest
+-- index that breaks the reduced form's clause.
+pub data RecordRefusal (s : List ℕ) (number place : ℕ) : Type 0 where
+  unframed : number ≡ 3 → place ≡ 0 → (Framed s → ⊥) → RecordRefusal s number place
+  faulty : number ≡ 4 → Framed s → FirstFault (recordEntries s) place → RecordRefusal s number place
+  unreduced : number ≡ 5 → Framed s → Sound (recordEntries s) → FirstBreak (formRead s) place
+      → RecordRefusal s number place
