@@ -1,24 +1,26 @@
 -- The walk down the left edges of a tree: at each turn a tree is held whose first leaf, and the trees behind it, are
 -- those of the whole. Assumes nothing.
 use mathlib.Core.Path.{_≡_, refl, sym, _∙_, subst, ap}
-use mathlib.Core.List.{List, _∷_}
+use mathlib.Core.List.{List}
 use Prim.Native.Nat.{ℕ, _+_, _≤_, _<_}
 use native.Mathlib.Omega.{arith}
-use lib.ListN.{getD, set, length, length-set}
+use lib.ListN.{getD, length}
 use Rattle.group.specs.Limits.{limit}
 use Rattle.forest.specs.Filling.{cells, room}
-use Rattle.forest.specs.Forest.{Tree, leaf, caret, leftEdges, leafExponent, treesBehind, leaves, forestLeaves}
-use Rattle.forest.specs.Cells.{Stands, StackStands}
+use Rattle.forest.specs.Forest.{Tree, leaf, caret, putTree, leftEdges, leafExponent, treesBehind}
+use Rattle.forest.specs.Forest.{leaves, forestLeaves}
+use Rattle.forest.specs.Cells.{Stands, StackStands, Pushed}
 use Rattle.forest.specs.Leaves.{Standing, LeafRead}
+use Rattle.forest.proofs.Irreducible.{put-leaves}
 use Rattle.forest.proofs.Counting.{leaves-some}
-use Rattle.forest.proofs.Stored.{stands-below, stands-more, stack-height, stack-push}
+use Rattle.forest.proofs.Stored.{stands-below, stands-more, stack-height}
 
 -- The tree u, in front of the trees us, is left of t in front of ts, `edges` left edges down.
 pub record Below (t : Tree) (ts : List Tree) (u : Tree) (us : List Tree) (edges : ℕ) : Type 0 where
   pub to-edges : edges + leftEdges u ≡ leftEdges t
   pub to-exponent : leafExponent u ≡ leafExponent t
   pub to-behind : treesBehind u us ≡ treesBehind t ts
-  pub to-leaves : leaves u + forestLeaves us ≡ leaves t + forestLeaves ts
+  pub to-leaves : leaves u + forestLeaves us ≤ leaves t + forestLeaves ts
 
 pub record Walked (lefts rights : List ℕ) (t : Tree) (ts : List Tree) (stack : List ℕ) (code edges height : ℕ)
     : Type 0 where
@@ -44,7 +46,7 @@ walk-starts lefts rights stack whole low = record {
     behind = ts;
     stands = p;
     stack-stands = s;
-    below = record { to-edges = omega arith; to-exponent = refl; to-behind = refl; to-leaves = refl };
+    below = record { to-edges = omega arith; to-exponent = refl; to-behind = refl; to-leaves = omega arith };
   };
 }
 
@@ -67,19 +69,19 @@ turn lefts rights stack code height (caret x y) ts p h s q = record {
 module _ {lefts rights stack₀ : List ℕ} {whole low : ℕ} {stack : List ℕ} {code edges height : ℕ}
     (w : Walking lefts rights stack₀ whole low stack code edges height) where
   -- From a caret to its left part; k is the code as an index.
-  down : (t : Tree) (ts : List Tree) (u : Tree) (us : List Tree) (k : ℕ) → k ≡ code → limit < code
-      → height < length stack → Stands lefts rights cells u code → StackStands lefts rights cells us stack height
-      → Below t ts u us edges
-      → Walked lefts rights t ts (set stack height (getD rights k 0)) (getD lefts k 0) (edges + 1) (height + 1)
+  down : {stack′ : List ℕ} {height′ : ℕ} (t : Tree) (ts : List Tree) (u : Tree) (us : List Tree) (k : ℕ) → k ≡ code
+      → limit < code → Pushed stack height (getD rights k 0) stack′ height′ → Stands lefts rights cells u code
+      → StackStands lefts rights cells us stack height → Below t ts u us edges
+      → Walked lefts rights t ts stack′ (getD lefts k 0) (edges + 1) height′
   down t ts (leaf n) us k e p q h s b = absurd (omega (arith, h .0, h .1))
   down t ts (caret x y) us k e p q h s b = record {
     tree = x;
-    behind = y ∷ us;
+    behind = putTree y us;
     stands =
         stands-more lefts rights code cells x (getD lefts k 0) (omega (arith, h .1))
         (subst (λ (j : ℕ). Stands lefts rights code x (getD lefts j 0)) (sym e) (h .2));
     stack-stands =
-        stack-push lefts rights cells y us stack height (getD rights k 0) q
+        q .puts lefts rights cells y us
         (stands-more lefts rights code cells y (getD rights k 0) (omega (arith, h .1))
         (subst (λ (j : ℕ). Stands lefts rights code y (getD rights j 0)) (sym e) (h .3)))
         s;
@@ -87,7 +89,7 @@ module _ {lefts rights stack₀ : List ℕ} {whole low : ℕ} {stack : List ℕ}
       to-edges = omega (arith, b .to-edges);
       to-exponent = b .to-exponent;
       to-behind = b .to-behind;
-      to-leaves = omega (arith, b .to-leaves);
+      to-leaves = omega (arith, b .to-leaves, put-leaves y us);
     };
   }
 
@@ -109,11 +111,11 @@ module _ {lefts rights stack₀ : List ℕ} {whole low : ℕ} {stack : List ℕ}
       turn lefts rights stack code height (v .tree) (v .behind) p (v .stands) (v .stack-stands)
       (omega (arith, v .below .to-leaves, s .few))
 
-  pub walk-more : (k : ℕ) → k ≡ code → limit < code → height < length stack → getD lefts code 0 < code
-      → Walking lefts rights stack₀ whole low (set stack height (getD rights k 0)) (getD lefts k 0) (edges + 1)
-      (height + 1)
-  walk-more k e p q r = record {
-    same = length-set stack height (getD rights k 0) ∙ w .same;
+  pub walk-more : {stack′ : List ℕ} {height′ : ℕ} (k : ℕ) → k ≡ code → limit < code → getD lefts code 0 < code
+      → length stack′ ≡ length stack → Pushed stack height (getD rights k 0) stack′ height′
+      → Walking lefts rights stack₀ whole low stack′ (getD lefts k 0) (edges + 1) height′
+  walk-more k e p r l q = record {
+    same = l ∙ w .same;
     falls =
         let g : getD lefts k 0 ≡ getD lefts code 0 = ap (λ (j : ℕ). getD lefts j 0) e in
         omega (arith, w .falls);

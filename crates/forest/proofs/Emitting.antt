@@ -1,26 +1,27 @@
 -- The read-off: the stack holds the trees behind the first i leaves, and the first i entries of the tables are the
 -- form's exponents. Assumes nothing.
-use mathlib.Core.Path.{_≡_, refl, sym, _∙_, subst, ap}
+use mathlib.Core.Path.{_≡_, refl, sym, _∙_, subst}
 use mathlib.Core.List.{List, [], _∷_}
 use Prim.Native.Nat.{ℕ, _+_, _≤_, _<_}
 use native.Mathlib.Numerals.{add-one}
 use native.Mathlib.Omega.{arith}
 use lib.ListN.{set, length, length-set}
 use Rattle.lists.specs.Tables.{filled}
-use Rattle.group.specs.Forms.{bSide, aSide, exponent}
+use Rattle.lists.proofs.Tables.{filled-none, filled-more}
+use Rattle.group.specs.Forms.{Side, bSide, aSide, exponent}
 use Rattle.group.specs.Products.{formOf}
 use Rattle.group.specs.Limits.{limit}
-use Rattle.forest.specs.declared.row.State.{State}
+use Rattle.group.proofs.Sizes.{form-index}
 use Rattle.forest.specs.Filling.{cells, room}
-use Rattle.forest.specs.Forest.{Tree, firstTree, laterTrees, leaves, forestLeaves}
+use Rattle.forest.specs.Forest.{Tree, firstTree, laterTrees, rowOf, leaves, forestLeaves}
 use Rattle.forest.specs.Cells.{StackStands, Popped}
 use Rattle.forest.specs.Moves.{stepWord}
-use Rattle.forest.specs.Leaves.{Standing, LeafRead, Ended, LongTables, Tabled}
-use Rattle.forest.proofs.ReadOff.{treesFrom, row-exponent}
+use Rattle.forest.specs.Leaves.{Standing, LeafRead, treesOf, Piled, LongTables, LevelsRead}
+use Rattle.forest.proofs.Irreducible.{row-irreducible, trees-leaves}
+use Rattle.forest.proofs.ReadOff.{treesFrom, row-exponent, levels-behind}
 use Rattle.forest.proofs.Counting.{from-leaves}
-use Rattle.forest.proofs.Stored.{stack-height}
-use Rattle.forest.proofs.Entries.{filled-none, filled-more}
-use Rattle.forest.proofs.Piled.{treesOf, piled, ended-piled, trees-few}
+use Rattle.forest.proofs.Stored.{stack-height, stack-none}
+use Rattle.forest.proofs.Running.{step-length}
 
 pub record Emitting (word lefts rights b₀ a₀ stack b a : List ℕ) (height i : ℕ) : Type 0 where
   pub short : length word ≤ limit
@@ -32,15 +33,15 @@ pub record Emitting (word lefts rights b₀ a₀ stack b a : List ℕ) (height i
   pub b-table : b ≡ filled i (exponent bSide (formOf (stepWord word))) b₀
   pub a-table : a ≡ filled i (exponent aSide (formOf (stepWord word))) a₀
 
-pub emit-starts : {word lefts rights stack : List ℕ} {s : State} (b a : List ℕ) → Ended word lefts rights stack s
-    → Emitting word lefts rights b a (piled stack s) b a (s .height + 2) 0
-emit-starts {word} {lefts} {rights} {stack} {s} b a e = record {
-  short = e .scratch .word-length;
+pub emit-starts : {word lefts rights stack : List ℕ} {height : ℕ} (b a : List ℕ)
+    → Piled word lefts rights stack height → Emitting word lefts rights b a stack b a height 0
+emit-starts {word} b a p = record {
+  short = p .scratch .word-length;
   here = omega arith;
-  stack-length = simp length-set (e .scratch .stack-length);
+  stack-length = p .scratch .stack-length;
   b-length = refl;
   a-length = refl;
-  stack-stands = ended-piled e;
+  stack-stands = p .stack-stands;
   b-table = filled-none (exponent bSide (formOf (stepWord word))) b;
   a-table = filled-none (exponent aSide (formOf (stepWord word))) a;
 }
@@ -55,7 +56,15 @@ module _ {word lefts rights b₀ a₀ stack b a : List ℕ} {height i : ℕ}
   left = treesFrom i (treesOf word)
 
   few : forestLeaves left ≤ room
-  few = omega (arith, from-leaves i (treesOf word), trees-few word (w .short))
+  few =
+      let v = stepWord word in
+      omega (
+        arith,
+        from-leaves i (treesOf word),
+        trees-leaves (length v) (rowOf v) (row-irreducible v),
+        step-length word,
+        w .short,
+      )
 
   pub emit-height : height ≤ length stack
   emit-height =
@@ -103,11 +112,14 @@ module _ {word lefts rights b₀ a₀ stack b a : List ℕ} {height i : ℕ}
             (r .1 ∙ sym (row-exponent (stepWord word) aSide i));
       }
 
-  pub emit-ends : length word < i → Tabled word b₀ a₀ b a
-  emit-ends p =
-      let e : i ≡ length word + 1 = omega (arith, w .here) in
-      let form = formOf (stepWord word) in
-      record {
-        b-table = w .b-table ∙ ap (λ (j : ℕ). filled j (exponent bSide form) b₀) e;
-        a-table = w .a-table ∙ ap (λ (j : ℕ). filled j (exponent aSide form) a₀) e;
-      }
+  read : ((s : Side) (j : ℕ) → i ≤ j → exponent s (formOf (stepWord word)) j ≡ 0) → LevelsRead word b₀ a₀ b a i
+  read h = record { within = w .here; behind = h; b-table = w .b-table; a-table = w .a-table }
+
+  -- The stack is empty: nothing is left but leaves of exponent 0.
+  pub emit-empty : height ≡ 0 → LevelsRead word b₀ a₀ b a i
+  emit-empty e =
+      read (levels-behind (stepWord word) i (stack-none lefts rights cells left stack height e (w .stack-stands)))
+
+  -- Every entry is written: no higher index occurs.
+  pub emit-ends : length word < i → LevelsRead word b₀ a₀ b a i
+  emit-ends p = read (λ s j h. form-index (stepWord word) s j (omega (arith, step-length word)))

@@ -7,7 +7,7 @@ use lib.ListN.{length}
 use borrow.Author.Tests.{eq-eqb, ne-eqb}
 use Rattle.lists.specs.Tables.{filled}
 use Rattle.group.specs.Letters.{Letter, 'a, 'A, 'b, 'B, Word}
-use Rattle.group.specs.Forms.{Side, bSide, aSide, exponent}
+use Rattle.group.specs.Forms.{Side, bSide, aSide, exponent, levels}
 use Rattle.group.specs.Products.{formOf}
 use Rattle.group.specs.Bytes.{byteOf, bytesOf, isWord, readWord}
 use Rattle.group.proofs.Bytes.{word-read, read-length}
@@ -67,6 +67,7 @@ module _ {word b a lefts rights stack : List ℕ} where
     b-table = sym (ap (λ (o : Outcome Word). tableAfter bSide o b) e);
     a-table = sym (ap (λ (o : Outcome Word). tableAfter aSide o a) e);
     scratch-kept = λ number place g. (refl, refl, refl);
+    levels-read = λ m g w h. let z : _≡_ {A = ℕ} 0 1 = cc in absurd (omega arith);
   }
 
   -- Scratch of other sizes.
@@ -109,14 +110,14 @@ module _ {word b a lefts rights stack : List ℕ} where
             )
 
     -- What the engine leaves.
-    pub tables-filled : {b′ a′ lefts′ rights′ stack′ : List ℕ} (v : Verdict) → v ≡ Accepted
-        → verdictOf v ≡ checked (judged word (length b) (length a)) → Tabled word b a b′ a′
-        → FilledTables word b a lefts rights stack b′ a′ lefts′ rights′ stack′ Filled
-    tables-filled {b′} {a′} {lefts′} {rights′} {stack′} v e f t =
+    pub tables-filled : {b′ a′ lefts′ rights′ stack′ : List ℕ} {n : ℕ} (v : Verdict) → v ≡ Accepted
+        → verdictOf v ≡ checked (judged word (length b) (length a)) → Tabled word b a b′ a′ n
+        → FilledTables word b a lefts rights stack b′ a′ lefts′ rights′ stack′ (Filled n)
+    tables-filled {b′} {a′} {lefts′} {rights′} {stack′} {n} v e f t =
         go (checked-accepted (judged word (length b) (length a)) (sym (ap verdictOf e) ∙ f))
       where
         go : (w : Word) × (judged word (length b) (length a) ≡ accepted w)
-            → FilledTables word b a lefts rights stack b′ a′ lefts′ rights′ stack′ Filled
+            → FilledTables word b a lefts rights stack b′ a′ lefts′ rights′ stack′ (Filled n)
         go (w, g) =
             let fit = accepted-fit word (length b) (length a) w g in
             let o : judgedIn word b a lefts rights stack ≡ accepted w =
@@ -132,4 +133,14 @@ module _ {word b a lefts rights stack : List ℕ} where
                   ∙ as-read aSide word w a (fit .reads)
                   ∙ sym (ap (λ (u : Outcome Word). tableAfter aSide u a) o);
               scratch-kept = λ number place h. let z : _≡_ {A = ℕ} 0 1 = cc in absurd (omega arith);
+              levels-read = λ m k x h.
+                  let same : w ≡ x = cc in
+                  let number : n ≡ m = cc in
+                  omega (
+                    arith,
+                    ap (λ (u : Word). levels (formOf u)) (step-word word w (fit .reads) ∙ same),
+                    read-length word w (fit .reads) ∙ ap length same,
+                    t .levels-read .0,
+                    t .levels-read .1,
+                  );
             }

@@ -13,7 +13,7 @@ use Rattle.group.specs.Products.{reduceLevel, timesX0, timesGenerator, timesLet
 use Rattle.group.proofs.Reduced.{reduce-level-trimmed}
 use Rattle.group.proofs.LevelProducts.{reduce-level-step, x0-raises, x0-opens, x0-lowers, times-x0, times-past}
 use Rattle.forest.specs.Forest.{Tree, leaf, caret, joinTrees, leftPart, rightPart, firstTree, laterTrees}
-use Rattle.forest.specs.Forest.{Row, row, rowTrees, moveRow, rowOf}
+use Rattle.forest.specs.Forest.{putTree, Row, row, rowTrees, moveRow, rowOf}
 
 abbrev pub treeLevels : ℕ → Tree → Form → Form
 treeLevels d (leaf n) f = reduceLevel d n f
@@ -24,7 +24,7 @@ forestLevels [] = empty
 forestLevels (t ∷ ts) = treeLevels 0 t (forestLevels ts)
 
 abbrev rowLevels : Row → Form
-rowLevels r = forestLevels (rowTrees r)
+rowLevels (row x y ts) = treeLevels 0 x (treeLevels 0 y (forestLevels ts))
 
 tree-trimmed : (d : ℕ) (t : Tree) (f : Form) → Trimmed f → Trimmed (treeLevels d t f)
 tree-trimmed d (leaf n) f h = reduce-level-trimmed d n f h
@@ -75,22 +75,36 @@ forest-opened : (ts : List Tree) → forestLevels ts ≡ treeLevels 0 (firstTree
 forest-opened [] = refl
 forest-opened (t ∷ ts) = refl
 
+pub put-levels : (t : Tree) (ts : List Tree) → forestLevels (putTree t ts) ≡ treeLevels 0 t (forestLevels ts)
+put-levels (leaf zero) [] = refl
+put-levels (leaf zero) (t ∷ ts) = refl
+put-levels (leaf (suc n)) ts = refl
+put-levels (caret x y) ts = refl
+
 row-moved : (x : Letter) (r : Row) → rowLevels (moveRow x r) ≡ timesLetter x (rowLevels r)
 row-moved 'a (row x y ts) =
     sym (tree-join x y (forestLevels ts) ∙ ap (treeLevels 0 (joinTrees x y)) (forest-opened ts))
 row-moved 'A (row x y ts) =
-    sym (tree-part x (forestLevels (y ∷ ts)) (forest-trimmed (y ∷ ts)))
+    ap (λ (f : Form). treeLevels 0 (leftPart x) (treeLevels 0 (rightPart x) f)) (put-levels y ts)
+    ∙ sym (tree-part x (forestLevels (y ∷ ts)) (forest-trimmed (y ∷ ts)))
 row-moved 'b (row x y ts) =
     sym
     (tree-past bSide 0 0 0 x (forestLevels (y ∷ ts)) (omega arith)
     ∙ ap (λ (f : Form). treeLevels 0 x (timesGenerator bSide 0 (treeLevels 0 y f))) (forest-opened ts)
     ∙ ap (treeLevels 0 x) (tree-join y (firstTree ts) (forestLevels (laterTrees ts))))
 row-moved 'B (row x y ts) =
-    sym
+    ap (λ (f : Form). treeLevels 0 x (treeLevels 0 (leftPart y) f)) (put-levels (rightPart y) ts)
+    ∙ sym
     (tree-past aSide 0 0 0 x (forestLevels (y ∷ ts)) (omega arith)
     ∙ ap (treeLevels 0 x) (tree-part y (forestLevels ts) (forest-trimmed ts)))
 
+word-levels : (w : Word) → rowLevels (rowOf w) ≡ formOf w
+word-levels [] = refl
+word-levels (x ∷ w) = row-moved x (rowOf w) ∙ ap (timesLetter x) (word-levels w)
+
+trees-levels : (r : Row) → forestLevels (rowTrees r) ≡ rowLevels r
+trees-levels (row x y ts) = put-levels x (putTree y ts) ∙ ap (treeLevels 0 x) (put-levels y ts)
+
 -- The levels of a word's row are the form of the word.
 pub row-form : (w : Word) → forestLevels (rowTrees (rowOf w)) ≡ formOf w
-row-form [] = refl
-row-form (x ∷ w) = row-moved x (rowOf w) ∙ ap (timesLetter x) (row-form w)
+row-form w = trees-levels (rowOf w) ∙ word-levels w

@@ -12,9 +12,9 @@ pub mod Moving
 pub mod Running
 -- the leaves read off
 pub mod Descent
-pub mod Entries
 pub mod Piled
 pub mod Emitting
+pub mod Zeroing
 -- the judgement, and the tables at exit
 pub mod Scanning
 pub mod Judged

@@ -1,16 +1,15 @@
 -- The four letters on the stored row. Assumes nothing.
 use mathlib.Core.Path.{_≡_, subst}
 use mathlib.Core.List.{List, [], _∷_}
-use Prim.Native.Nat.{ℕ, _+_, _<_}
+use Prim.Native.Nat.{ℕ}
 use native.Mathlib.Omega.{arith}
-use lib.ListN.{getD, set, length}
+use lib.ListN.{getD}
 use borrow.Author.Tests.{ne-eqb}
 use Rattle.group.specs.Letters.{Letter, 'a, 'A, 'b, 'B}
 use Rattle.forest.specs.declared.row.State.{State}
 use Rattle.forest.specs.Forest.{Tree, rightPart, firstTree, laterTrees, Row, row, moveRow}
-use Rattle.forest.specs.Cells.{Stands, StackStands, LeftCode, RightCode, Popped, Made}
+use Rattle.forest.specs.Cells.{Stands, StackStands, LeftCode, RightCode, Popped, Pushed, Made}
 use Rattle.forest.specs.Moves.{stepLetter, Held, RaisableRow, Moved}
-use Rattle.forest.proofs.Stored.{stack-push}
 
 -- What keeps each tree keeps a stack of them.
 stack-keeps : (lefts rights lefts′ rights′ : List ℕ) (used used′ : ℕ)
@@ -56,37 +55,37 @@ module _ (lefts rights stack lefts′ rights′ : List ℕ) (s : State) (used tr
             stack-keeps lefts rights lefts′ rights′ (s .used) used (m .keeps) (laterTrees ts) stack height (q .1),
           )
 
-module _ (lefts rights stack : List ℕ) (s : State) (left right : ℕ) (space : s .height < length stack) where
+module _ (lefts rights stack stack′ : List ℕ) (s : State) (left right height : ℕ) where
   -- The letter A: the second tree was pushed, and the first parted.
-  pub parted-first : LeftCode lefts (s .first) left → RightCode rights (s .first) right
-      → Moved 'A lefts rights stack s lefts rights (set stack (s .height) (s .second))
-      (record { used = s .used; height = s .height + 1; first = left; second = right })
-  parted-first p q = record { low = omega arith; high = omega arith; moves = moves }
+  pub parted-first : Pushed stack (s .height) (s .second) stack′ height → LeftCode lefts (s .first) left
+      → RightCode rights (s .first) right
+      → Moved 'A lefts rights stack s lefts rights stack′
+      (record { used = s .used; height = height; first = left; second = right })
+  parted-first d p q = record { low = omega arith; high = omega arith; moves = moves }
     where
       moves : (r : Row) → RaisableRow r → Held lefts rights stack s r
-          → Held lefts rights (set stack (s .height) (s .second))
-          (record { used = s .used; height = s .height + 1; first = left; second = right })
+          → Held lefts rights stack′ (record { used = s .used; height = height; first = left; second = right })
           (moveRow 'A r)
       moves (row x y ts) l (h, k, t) = (
         p rights (s .used) x (l .0) h,
         q lefts (s .used) x h,
-        stack-push lefts rights (s .used) y ts stack (s .height) (s .second) space k t,
+        d .puts lefts rights (s .used) y ts k t,
       )
 
   -- The letter B.
-  pub parted-second : LeftCode lefts (s .second) left → RightCode rights (s .second) right
-      → Moved 'B lefts rights stack s lefts rights (set stack (s .height) right)
-      (record { used = s .used; height = s .height + 1; first = s .first; second = left })
-  parted-second p q = record { low = omega arith; high = omega arith; moves = moves }
+  pub parted-second : Pushed stack (s .height) right stack′ height → LeftCode lefts (s .second) left
+      → RightCode rights (s .second) right
+      → Moved 'B lefts rights stack s lefts rights stack′
+      (record { used = s .used; height = height; first = s .first; second = left })
+  parted-second d p q = record { low = omega arith; high = omega arith; moves = moves }
     where
       moves : (r : Row) → RaisableRow r → Held lefts rights stack s r
-          → Held lefts rights (set stack (s .height) right)
-          (record { used = s .used; height = s .height + 1; first = s .first; second = left })
+          → Held lefts rights stack′ (record { used = s .used; height = height; first = s .first; second = left })
           (moveRow 'B r)
       moves (row x y ts) l (h, k, t) = (
         h,
         p rights (s .used) y (l .1) k,
-        stack-push lefts rights (s .used) (rightPart y) ts stack (s .height) right space (q lefts (s .used) y k) t,
+        d .puts lefts rights (s .used) (rightPart y) ts (q lefts (s .used) y k) t,
       )
 
 -- The same letter by another name.

@@ -1,19 +1,19 @@
 -- The row of a word, all its trees on the stack: what the read-off starts with. Assumes nothing.
-use mathlib.Core.Path.{_≡_, _∙_, subst}
-use mathlib.Core.List.{List, _∷_}
-use Prim.Native.Nat.{ℕ, _+_, _≤_, _<_}
+use mathlib.Core.Path.{_≡_, _∙_}
+use mathlib.Core.List.{List}
+use Prim.Native.Nat.{ℕ, _≤_}
 use native.Mathlib.Omega.{arith}
-use lib.ListN.{set, length, length-set}
+use lib.ListN.{length}
 use Rattle.group.specs.Limits.{limit}
 use Rattle.forest.specs.declared.row.State.{State}
-use Rattle.forest.specs.Filling.{cells, room}
-use Rattle.forest.specs.Forest.{Tree, Row, row, rowTrees, rowOf, forestLeaves}
-use Rattle.forest.specs.Cells.{StackStands}
+use Rattle.forest.specs.Filling.{cells}
+use Rattle.forest.specs.Forest.{putTree, Row, row, rowTrees, rowOf}
+use Rattle.forest.specs.Cells.{StackStands, Pushed}
 use Rattle.forest.specs.Moves.{stepWord, Held, Scratch, Ran}
-use Rattle.forest.specs.Leaves.{Ended}
+use Rattle.forest.specs.Leaves.{Piled, Ended}
 use Rattle.forest.proofs.Irreducible.{IrreducibleRow, row-irreducible}
 use Rattle.forest.proofs.Counting.{leaves-some}
-use Rattle.forest.proofs.Stored.{stack-more, stack-height, stack-push}
+use Rattle.forest.proofs.Stored.{stack-more, stack-height}
 use Rattle.forest.proofs.Running.{step-length}
 
 -- What the loop over the letters leaves is what the read-off asks.
@@ -30,29 +30,10 @@ ended scratch el er es r = record {
   ran = r;
 }
 
--- The trees of a word's row, from the left.
-abbrev pub treesOf : List ℕ → List Tree
-treesOf word = rowTrees (rowOf (stepWord word))
-
 row-height : (n : ℕ) (r : Row) (lefts rights stack : List ℕ) (s : State) → IrreducibleRow n r
     → Held lefts rights stack s r → s .height ≤ n
 row-height n (row x y ts) lefts rights stack s i (h, k, t) =
-    omega (arith, i .1, stack-height lefts rights (s .used) ts stack (s .height) t, leaves-some x, leaves-some y)
-
--- The stack with the state's two trees on it.
-abbrev pub piled : List ℕ → State → List ℕ
-piled stack s = set (set stack (s .height) (s .second)) (s .height + 1) (s .first)
-
-row-piled : (r : Row) (lefts rights stack : List ℕ) (s : State) → s .used ≤ cells → s .height + 1 < length stack
-    → Held lefts rights stack s r → StackStands lefts rights cells (rowTrees r) (piled stack s) (s .height + 2)
-row-piled (row x y ts) lefts rights stack s u p (h, k, t) =
-    let one = stack-push lefts rights (s .used) y ts stack (s .height) (s .second) (omega arith) k t in
-    let once = set stack (s .height) (s .second) in
-    let space : s .height + 1 < length once = omega (arith, length-set stack (s .height) (s .second)) in
-    let two = stack-push lefts rights (s .used) x (y ∷ ts) once (s .height + 1) (s .first) space h one in
-    let e : (s .height + 1) + 1 ≡ s .height + 2 = omega arith in
-    subst (λ (j : ℕ). StackStands lefts rights cells (x ∷ y ∷ ts) (piled stack s) j) e
-    (stack-more lefts rights (s .used) cells (x ∷ y ∷ ts) (piled stack s) ((s .height + 1) + 1) u two)
+    omega (arith, i .3, stack-height lefts rights (s .used) ts stack (s .height) t, leaves-some x, leaves-some y)
 
 pub low-height : {word lefts rights stack : List ℕ} {s : State} → Ended word lefts rights stack s → s .height ≤ limit
 low-height {word} {lefts} {rights} {stack} {s} e =
@@ -64,12 +45,26 @@ low-height {word} {lefts} {rights} {stack} {s} e =
       e .scratch .word-length,
     )
 
-pub ended-piled : {word lefts rights stack : List ℕ} {s : State} → Ended word lefts rights stack s
-    → StackStands lefts rights cells (treesOf word) (piled stack s) (s .height + 2)
-ended-piled {word} {lefts} {rights} {stack} {s} e =
-    row-piled (rowOf (stepWord word)) lefts rights stack s (e .ran .used-high)
-    (omega (arith, low-height e, e .scratch .stack-length))
-    (e .ran .held)
+row-piled : (r : Row) (lefts rights stack stack′ stack″ : List ℕ) (s : State) (low height : ℕ) → s .used ≤ cells
+    → Held lefts rights stack s r → Pushed stack (s .height) (s .second) stack′ low
+    → Pushed stack′ low (s .first) stack″ height → StackStands lefts rights cells (rowTrees r) stack″ height
+row-piled (row x y ts) lefts rights stack stack′ stack″ s low height u (h, k, t) p q =
+    stack-more lefts rights (s .used) cells (putTree x (putTree y ts)) stack″ height u
+    (q .puts lefts rights (s .used) x (putTree y ts) h (p .puts lefts rights (s .used) y ts k t))
 
-pub trees-few : (word : List ℕ) → length word ≤ limit → forestLeaves (treesOf word) ≤ room
-trees-few word short = omega (arith, row-irreducible (stepWord word) .1, step-length word)
+-- With the state's two trees put onto it, the stack has the whole row.
+pub ended-piled : {word lefts rights stack stack′ stack″ : List ℕ} {s : State} {low height : ℕ}
+    → Ended word lefts rights stack s → length stack′ ≡ length stack → length stack″ ≡ length stack′
+    → Pushed stack (s .height) (s .second) stack′ low → Pushed stack′ low (s .first) stack″ height
+    → Piled word lefts rights stack″ height
+ended-piled {word} {lefts} {rights} {stack} {stack′} {stack″} {s} {low} {height} e f g p q = record {
+  scratch = record {
+    word-length = e .scratch .word-length;
+    lefts-length = e .scratch .lefts-length;
+    rights-length = e .scratch .rights-length;
+    stack-length = g ∙ f ∙ e .scratch .stack-length;
+  };
+  stack-stands =
+      row-piled (rowOf (stepWord word)) lefts rights stack stack′ stack″ s low height (e .ran .used-high)
+      (e .ran .held) p q;
+}

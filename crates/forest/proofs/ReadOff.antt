@@ -1,18 +1,19 @@
 -- The leaves of a row, read from the left, are the levels of its form: b_i is the number of left edges above leaf i,
 -- and a_i its exponent. Assumes nothing.
-use mathlib.Core.Path.{_≡_, refl, sym, _∙_, ap}
+use mathlib.Core.Path.{_≡_, refl, sym, _∙_, subst, ap}
 use mathlib.Core.List.{List, [], _∷_}
-use Prim.Native.Nat.{ℕ, zero, suc, _+_, _<_}
+use Prim.Native.Nat.{ℕ, zero, suc, _+_, _-_, _≤_, _<_}
 use native.Mathlib.Omega.{arith}
 use lib.ListN.{length}
 use Rattle.group.specs.Letters.{Word}
 use Rattle.group.specs.Forms.{Side, bSide, aSide, Form, level, onSide, exponent, SameExponents}
 use Rattle.group.specs.Products.{formOf}
 use Rattle.group.proofs.LevelProducts.{reduce-level-same}
-use Rattle.forest.specs.Forest.{Tree, leaf, caret, firstTree, laterTrees, rowTrees, rowOf}
+use Rattle.forest.specs.Forest.{Tree, leaf, caret, firstTree, laterTrees, putTree, rowTrees, rowOf}
 use Rattle.forest.specs.Forest.{leftEdges, leafExponent, treesBehind}
-use Rattle.forest.proofs.Levels.{treeLevels, forestLevels, row-form}
-use Rattle.forest.proofs.Irreducible.{Apart, Irreducible, IrreducibleForest, row-irreducible}
+use Rattle.forest.proofs.Levels.{treeLevels, forestLevels, put-levels, row-form}
+use Rattle.forest.proofs.Irreducible.{Apart, Irreducible, IrreducibleForest, put-irreducible}
+use Rattle.forest.proofs.Irreducible.{row-irreducible, trees-irreducible}
 
 -- The trees behind the first leaf, and behind the first i leaves.
 abbrev forestBehind : List Tree → List Tree
@@ -43,9 +44,10 @@ apart-occurs m (leaf zero) h = absurd h
 apart-occurs m (leaf (suc n)) h = omega arith
 apart-occurs m (caret u v) h = omega arith
 
-stable-left : (d : ℕ) (x y : Tree) (ts : List Tree) → Apart x y → FirstLevel 0 y ts → Stable d x (y ∷ ts)
+stable-left : (d : ℕ) (x y : Tree) (ts : List Tree) → Apart x y → FirstLevel 0 y ts → Stable d x (putTree y ts)
 stable-left d (leaf zero) y ts h f = λ p q. absurd (omega arith)
-stable-left d (leaf (suc m)) y ts h f = λ p q. omega (arith, apart-occurs m y h, f bSide 0, f aSide 0)
+stable-left d (leaf (suc m)) y ts h f = λ p q.
+    rw put-levels (omega (arith, apart-occurs m y h, f bSide 0, f aSide 0))
 stable-left d (caret u v) y ts h f = tt
 
 first-level : (n d : ℕ) (t : Tree) (ts : List Tree) → Irreducible n t → Stable d t ts → FirstLevel d t ts
@@ -55,11 +57,12 @@ first-level n d (leaf m) ts h k s i =
     ∙ ap (λ (j : ℕ). exponent s (level j m (forestLevels ts)) i) e
 first-level n d (caret x y) ts h k s i =
     let e : leftEdges x + suc d ≡ suc (leftEdges x) + d = omega arith in
-    first-level n (suc d) x (y ∷ ts) (h .1)
+    ap (λ (f : Form). exponent s (treeLevels (suc d) x f) i) (sym (put-levels y ts))
+    ∙ first-level n (suc d) x (putTree y ts) (h .1)
     (stable-left (suc d) x y ts (h .0) (first-level n 0 y ts (h .2) (stable-first y ts)))
     s
     i
-    ∙ ap (λ (j : ℕ). exponent s (level j (leafExponent x) (forestLevels (treesBehind x (y ∷ ts)))) i) e
+    ∙ ap (λ (j : ℕ). exponent s (level j (leafExponent x) (forestLevels (treesBehind x (putTree y ts)))) i) e
 
 -- The same of several trees.
 forest-level : (n : ℕ) (ts : List Tree) → IrreducibleForest n ts
@@ -76,7 +79,8 @@ forest-level n (t ∷ ts) h s i =
 behind-irreducible : (n : ℕ) (t : Tree) (ts : List Tree) → Irreducible n t → IrreducibleForest n ts
     → IrreducibleForest n (treesBehind t ts)
 behind-irreducible n (leaf m) ts h k = k
-behind-irreducible n (caret x y) ts h k = behind-irreducible n x (y ∷ ts) (h .1) (h .2, k)
+behind-irreducible n (caret x y) ts h k =
+    behind-irreducible n x (putTree y ts) (h .1) (put-irreducible n y ts (h .2) k)
 
 forest-behind-irreducible : (n : ℕ) (ts : List Tree) → IrreducibleForest n ts → IrreducibleForest n (forestBehind ts)
 forest-behind-irreducible n [] h = tt
@@ -103,4 +107,22 @@ pub row-exponent : (w : Word) (s : Side) (i : ℕ)
     → exponent s (formOf w) i ≡ leafLevel s (treesFrom i (rowTrees (rowOf w)))
 row-exponent w s i =
     ap (λ (f : Form). exponent s f i) (sym (row-form w))
-    ∙ forest-exponent (length w) s i (rowTrees (rowOf w)) (row-irreducible w .0)
+    ∙ forest-exponent (length w) s i (rowTrees (rowOf w))
+    (trees-irreducible (length w) (rowOf w) (row-irreducible w))
+
+-- Behind the last tree nothing occurs.
+from-none : (k i j : ℕ) (ts : List Tree) → j ≡ k + i → treesFrom i ts ≡ [] → treesFrom j ts ≡ []
+from-none zero i j ts e h = let g : i ≡ j = omega arith in subst (λ (n : ℕ). treesFrom n ts ≡ []) g h
+from-none (suc k) i zero ts e h = absurd (omega arith)
+from-none (suc k) i (suc j) ts e h = ap forestBehind (from-none k i j ts (omega arith) h)
+
+level-none : (s : Side) → leafLevel s [] ≡ 0
+level-none bSide = refl
+level-none aSide = refl
+
+pub levels-behind : (w : Word) (i : ℕ) → treesFrom i (rowTrees (rowOf w)) ≡ [] → (s : Side) (j : ℕ) → i ≤ j
+    → exponent s (formOf w) j ≡ 0
+levels-behind w i e s j h =
+    row-exponent w s j
+    ∙ ap (leafLevel s) (from-none (j - i) i j (rowTrees (rowOf w)) (omega arith) e)
+    ∙ level-none s

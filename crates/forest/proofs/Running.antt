@@ -44,7 +44,7 @@ tree-raisable n (leaf m) p h = omega arith
 tree-raisable n (caret x y) p h = tt
 
 row-raisable : (n : ℕ) (r : Row) → n < limit → IrreducibleRow n r → RaisableRow r
-row-raisable n (row x y ts) p ((h, (k, l)), m) = (tree-raisable n x p h, tree-raisable n y p k)
+row-raisable n (row x y ts) p (h, k, l, m) = (tree-raisable n x p h, tree-raisable n y p k)
 
 held-ready : (n : ℕ) (r : Row) {word lefts rights stack : List ℕ} (s : State) → n < limit → IrreducibleRow n r
     → Scratch word lefts rights stack → limit < s .used → s .used < cells → Held lefts rights stack s r
@@ -57,7 +57,7 @@ held-ready n (row x y ts) {word} {lefts} {rights} {stack} s p i scratch low high
   used-high = high;
   height-high =
       omega
-      (arith, stack-height lefts rights (s .used) ts stack (s .height) t, i .1, leaves-some x, leaves-some y);
+      (arith, stack-height lefts rights (s .used) ts stack (s .height) t, i .3, leaves-some x, leaves-some y);
   first-high = omega (arith, stands-below lefts rights (s .used) x (s .first) low h);
   second-high = omega (arith, stands-below lefts rights (s .used) y (s .second) low k);
 }

@@ -2,7 +2,7 @@
 -- Assumes nothing.
 use mathlib.Core.Path.{_≡_, refl, sym, _∙_, ap}
 use mathlib.Core.Bool.{Bool, true, false, cond}
-use mathlib.Core.List.{List, _∷_}
+use mathlib.Core.List.{List, [], _∷_}
 use mathlib.Core.Option.{Option, none, some}
 use Prim.Native.Nat.{ℕ, suc, _+_, _<_, _≤_}
 use native.Mathlib.Numerals.{add-one}
@@ -15,7 +15,7 @@ use Rattle.group.specs.Letters.{Letter, 'B, Word}
 use Rattle.group.specs.Texts.{letterOf}
 use Rattle.group.specs.Bytes.{Reading, isWord, notLetter, readLetter, readWord}
 use Rattle.group.proofs.Bytes.{not-letter}
-use Rattle.forest.specs.Scanning.{isLetter, readingEnd, lettersInFront}
+use Rattle.forest.specs.Scanning.{isLetter, allLetters, readingEnd, lettersInFront}
 
 -- The last of the four tests of a byte.
 pub letter-last : (c : ℕ) → (c ≡ 97 → ⊥) → (c ≡ 65 → ⊥) → (c ≡ 98 → ⊥) → eqb c 66 ≡ isLetter (letterOf c)
@@ -56,6 +56,36 @@ module _ (s : List ℕ) (i : ℕ) (lt : i < length s) where
 pub bad-none : (s : List ℕ) (i : ℕ) → i ≡ length s → lettersInFront (drop i s) ≡ 0
 unfolding readWord
 bad-none s i e = ap (λ (k : ℕ). lettersInFront (drop k s)) e ∙ ap lettersInFront (drop-length s)
+
+-- Whether all bytes are letters: those before i, the one at i, and those behind it.
+and-moved : (t good rest : Bool) → cond (cond t good false) rest false ≡ cond good (cond t rest false) false
+and-moved true true rest = refl
+and-moved true false rest = refl
+and-moved false true rest = refl
+and-moved false false rest = refl
+
+pub good-more : (s : List ℕ) (i : ℕ) (good more : Bool) → i < length s
+    → more ≡ cond (isLetter (letterOf (getD s i 0))) good false
+    → cond more (allLetters (drop (i + 1) s)) false ≡ cond good (allLetters (drop i s)) false
+good-more s i good more lt e =
+    ap (λ (t : Bool). cond t (allLetters (drop (i + 1) s)) false) e
+    ∙ and-moved (isLetter (letterOf (getD s i 0))) good (allLetters (drop (i + 1) s))
+    ∙ ap (λ (l : List ℕ). cond good (allLetters l) false) (sym (next s i lt))
+
+pub good-none : (s : List ℕ) (i : ℕ) (good : Bool) → i ≡ length s → good ≡ cond good (allLetters (drop i s)) false
+good-none s i true e = sym (ap (λ (k : ℕ). allLetters (drop k s)) e ∙ ap allLetters (drop-length s))
+good-none s i false e = refl
+
+-- Where all are letters, the reading ends behind them all.
+pub good-end : (s : List ℕ) → allLetters s ≡ true → length s ≡ lettersInFront s
+unfolding readWord
+good-end [] e = refl
+good-end (c ∷ s) e = go (isLetter (letterOf c)) refl e (good-end s)
+  where
+    go : (t : Bool) → isLetter (letterOf c) ≡ t → cond t (allLetters s) false ≡ true
+        → (allLetters s ≡ true → length s ≡ lettersInFront s) → suc (length s) ≡ lettersInFront (c ∷ s)
+    go true f h later = ap suc (later h) ∙ sym (end-later (letterOf c) (readWord s) (length s) f)
+    go false f h later = let z : _≡_ {A = ℕ} 0 1 = cc in absurd (omega arith)
 
 -- As many letters as bytes: the bytes are a word.
 pub all-letters : (s : List ℕ) → length s ≤ lettersInFront s → (w : Word) × (readWord s ≡ isWord w)

@@ -1,14 +1,14 @@
 -- Stored trees: what using more cells, taking from the stack, pushing and parting keep and make. Assumes nothing.
 use mathlib.Core.Path.{_≡_, refl, sym, subst}
 use mathlib.Core.List.{List, [], _∷_}
-use Prim.Native.Nat.{ℕ, _+_, _-_, _≤_, _<_}
+use Prim.Native.Nat.{ℕ, zero, suc, _+_, _-_, _≤_, _<_}
 use native.Mathlib.Omega.{arith}
 use lib.ListN.{getD, set, length}
 use lib.Seq.{getD-set-same}
 use borrow.Author.Needs.{read-below}
 use Rattle.group.specs.Limits.{limit}
-use Rattle.forest.specs.Forest.{Tree, leaf, caret, forestLeaves}
-use Rattle.forest.specs.Cells.{Stands, StackStands, LeftCode, RightCode, Popped}
+use Rattle.forest.specs.Forest.{Tree, leaf, caret, putTree, forestLeaves}
+use Rattle.forest.specs.Cells.{Stands, StackStands, LeftCode, RightCode, Popped, Pushed}
 use Rattle.forest.proofs.Counting.{leaves-some}
 
 module _ (lefts rights : List ℕ) where
@@ -46,7 +46,7 @@ module _ (lefts rights : List ℕ) where
     stack-kept used ts stack at v top (omega arith) s,
   )
 
-  pub stack-push : (used : ℕ) (t : Tree) (ts : List Tree) (stack : List ℕ) (height code : ℕ) → height < length stack
+  stack-push : (used : ℕ) (t : Tree) (ts : List Tree) (stack : List ℕ) (height code : ℕ) → height < length stack
       → Stands lefts rights used t code → StackStands lefts rights used ts stack height
       → StackStands lefts rights used (t ∷ ts) (set stack height code) (height + 1)
   stack-push used t ts stack height code p h s = (
@@ -55,6 +55,12 @@ module _ (lefts rights : List ℕ) where
     subst (Stands lefts rights used t) (sym (getD-set-same stack height code 0 p)) h,
     stack-kept used ts stack height code height (omega arith) s,
   )
+
+  -- An empty stack stands for no trees.
+  pub stack-none : (used : ℕ) (ts : List Tree) (stack : List ℕ) (height : ℕ) → height ≡ 0
+      → StackStands lefts rights used ts stack height → ts ≡ []
+  stack-none used [] stack height e s = refl
+  stack-none used (t ∷ ts) stack height e s = absurd (omega (arith, s .1))
 
 -- The first tree is taken from the stack, or a leaf where the stack is empty.
 pub pop-none : (stack : List ℕ) (height : ℕ) → height ≡ 0 → Popped stack height 0 0
@@ -69,6 +75,31 @@ pop-some stack height some lefts rights used (t ∷ ts) (top, e, h, s) =
       subst (λ (j : ℕ). Stands lefts rights used t (getD stack j 0)) c h,
       subst (λ (j : ℕ). StackStands lefts rights used ts stack j) c s,
     )
+
+-- A tree is put onto the stack, but a leaf of exponent 0 at its bottom is not stored.
+pub push-none : (stack : List ℕ) (height tree : ℕ) → height ≡ 0 → tree ≡ 0 → Pushed stack height tree stack 0
+push-none stack height tree e z = record { high = omega arith; puts = puts }
+  where
+    puts : (lefts rights : List ℕ) (used : ℕ) (t : Tree) (ts : List Tree) → Stands lefts rights used t tree
+        → StackStands lefts rights used ts stack height → StackStands lefts rights used (putTree t ts) stack 0
+    puts lefts rights used (leaf zero) [] h s = refl
+    puts lefts rights used (leaf zero) (t ∷ ts) h s = absurd (omega (arith, s .1))
+    puts lefts rights used (leaf (suc n)) ts h s = absurd (omega (arith, h .0))
+    puts lefts rights used (caret x y) ts h s = absurd (omega (arith, h .0))
+
+pub push-some : (stack : List ℕ) (height tree : ℕ) → height < length stack → ((height ≡ 0) × (tree ≡ 0) → ⊥)
+    → Pushed stack height tree (set stack height tree) (height + 1)
+push-some stack height tree p some = record { high = omega arith; puts = puts }
+  where
+    puts : (lefts rights : List ℕ) (used : ℕ) (t : Tree) (ts : List Tree) → Stands lefts rights used t tree
+        → StackStands lefts rights used ts stack height
+        → StackStands lefts rights used (putTree t ts) (set stack height tree) (height + 1)
+    puts lefts rights used (leaf zero) [] h s = absurd (some (s, h .0))
+    puts lefts rights used (leaf zero) (t ∷ ts) h s =
+        stack-push lefts rights used (leaf zero) (t ∷ ts) stack height tree p h s
+    puts lefts rights used (leaf (suc n)) ts h s =
+        stack-push lefts rights used (leaf (suc n)) ts stack height tree p h s
+    puts lefts rights used (caret x y) ts h s = stack-push lefts rights used (caret x y) ts stack height tree p h s
 
 -- The parts of a tree; k is the code as an index.
 pub left-leaf : (lefts : List ℕ) (code : ℕ) → code ≤ limit → LeftCode lefts code (code + 1)

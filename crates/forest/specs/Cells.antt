@@ -6,7 +6,8 @@ use mathlib.Core.List.{List, [], _∷_}
 use Prim.Native.Nat.{ℕ, _+_, _≤_, _<_}
 use lib.ListN.{getD}
 use Rattle.group.specs.Limits.{limit}
-use Rattle.forest.specs.Forest.{Tree, leaf, caret, joinTrees, leftPart, rightPart, firstTree, laterTrees}
+use Rattle.forest.specs.Forest.{Tree, leaf, caret, joinTrees, leftPart, rightPart}
+use Rattle.forest.specs.Forest.{firstTree, laterTrees, putTree}
 
 -- The code stands for the tree, its cells all below `used`: up to the limit it is a leaf, above it a cell.
 abbrev pub Stands : (lefts rights : List ℕ) (used : ℕ) → Tree → (code : ℕ) → Type 0
@@ -52,6 +53,14 @@ Popped stack height tree height′ =
     (lefts rights : List ℕ) (used : ℕ) (ts : List Tree)
     → StackStands lefts rights used ts stack height
     → Stands lefts rights used (firstTree ts) tree × StackStands lefts rights used (laterTrees ts) stack height′
+
+-- A tree was put onto the stack.
+pub record Pushed (stack : List ℕ) (height tree : ℕ) (stack′ : List ℕ) (height′ : ℕ) : Type 0 where
+  pub high : height′ ≤ height + 1
+  pub puts : (lefts rights : List ℕ) (used : ℕ) (t : Tree) (ts : List Tree)
+      → Stands lefts rights used t tree
+      → StackStands lefts rights used ts stack height
+      → StackStands lefts rights used (putTree t ts) stack′ height′
 
 -- Two trees were joined; at most one cell was taken, and every stored tree is kept.
 pub record Made (lefts rights : List ℕ) (used left right : ℕ) (lefts′ rights′ : List ℕ) (used′ tree : ℕ) : Type 0 where

@@ -2,12 +2,12 @@
 use mathlib.Core.Path.{_≡_}
 use mathlib.Core.Bool.{Bool, false, cond}
 use mathlib.Core.List.{List}
-use Prim.Native.Nat.{ℕ, _+_}
+use Prim.Native.Nat.{ℕ, _+_, _≤_}
 use lib.ListN.{length}
 use lib.Dec.{eqb}
 use Rattle.lists.specs.Tables.{filled}
 use Rattle.group.specs.Letters.{Word}
-use Rattle.group.specs.Forms.{Side, bSide, aSide, exponent}
+use Rattle.group.specs.Forms.{Side, bSide, aSide, exponent, levels}
 use Rattle.group.specs.Products.{formOf}
 use Rattle.group.specs.Limits.{limit}
 use Rattle.refusals.specs.Outcomes.{Outcome, accepted, refused, after, checked, refusal}
@@ -36,7 +36,7 @@ judgedIn word b a lefts rights stack =
 
 -- The outcome of each answer.
 abbrev pub fillingOf : Filling → Outcome ℕ
-fillingOf Filled = accepted 0
+fillingOf (Filled n) = accepted 0
 fillingOf (Refused r) = refusal r
 fillingOf Unfit = refused 0 0
 
@@ -52,3 +52,6 @@ pub record FilledTables (word b a lefts rights stack b′ a′ lefts′ rights�
   pub a-table : a′ ≡ tableAfter aSide (judgedIn word b a lefts rights stack) a
   pub scratch-kept : (number place : ℕ) → judgedIn word b a lefts rights stack ≡ refused number place
       → (lefts′ ≡ lefts) × (rights′ ≡ rights) × (stack′ ≡ stack)
+  -- The entries below n are all that a record of the form needs; how far n is above the number of levels is open.
+  pub levels-read : (n : ℕ) → r ≡ Filled n → (w : Word) → judgedIn word b a lefts rights stack ≡ accepted w
+      → (levels (formOf w) ≤ n) × (n ≤ length w + 1)

@@ -2,6 +2,7 @@
 -- left, stands for level i of the form: a_i is its exponent, b_i the number of left edges above it.
 --     joinTrees, leftPart, rightPart         two trees under one caret; the two parts of a tree
 --     firstTree, laterTrees                  a list of trees, with leaves of exponent 0 behind it
+--     putTree                                a tree in front of such a list
 --     moveRow, rowOf                         a letter on a row; the row of a word
 --     leftEdges, leafExponent, treesBehind   the first leaf of a tree, and the trees behind it
 --     leaves, forestLeaves                   how many leaves there are
@@ -43,20 +44,27 @@ abbrev pub laterTrees : List Tree → List Tree
 laterTrees [] = []
 laterTrees (t ∷ ts) = ts
 
+-- A tree in front of a list of trees. A leaf of exponent 0 with none behind it is not stored.
+abbrev pub putTree : Tree → List Tree → List Tree
+putTree (leaf zero) [] = []
+putTree (leaf zero) (t ∷ ts) = leaf zero ∷ t ∷ ts
+putTree (leaf (suc n)) ts = leaf (suc n) ∷ ts
+putTree (caret x y) ts = caret x y ∷ ts
+
 -- A row: its first two trees, the others, and behind them leaves of exponent 0 that are not stored.
 pub data Row : Type 0 where
   row : Tree → Tree → List Tree → Row
 
--- The trees of a row, from the left.
+-- The trees of a row, from the left, as they are put onto the stack.
 abbrev pub rowTrees : Row → List Tree
-rowTrees (row x y ts) = x ∷ y ∷ ts
+rowTrees (row x y ts) = putTree x (putTree y ts)
 
 -- A letter on a row: a joins the first two trees, b the second and the third; A parts the first tree, B the second.
 abbrev pub moveRow : Letter → Row → Row
 moveRow 'a (row x y ts) = row (joinTrees x y) (firstTree ts) (laterTrees ts)
-moveRow 'A (row x y ts) = row (leftPart x) (rightPart x) (y ∷ ts)
+moveRow 'A (row x y ts) = row (leftPart x) (rightPart x) (putTree y ts)
 moveRow 'b (row x y ts) = row x (joinTrees y (firstTree ts)) (laterTrees ts)
-moveRow 'B (row x y ts) = row x (leftPart y) (rightPart y ∷ ts)
+moveRow 'B (row x y ts) = row x (leftPart y) (putTree (rightPart y) ts)
 
 -- The row of a word: the rightmost letter acts first.
 abbrev pub rowOf : Word → Row
@@ -76,7 +84,7 @@ leafExponent (caret x y) = leafExponent x
 -- The trees behind the first leaf of a tree that stands in front of others.
 abbrev pub treesBehind : Tree → List Tree → List Tree
 treesBehind (leaf n) ts = ts
-treesBehind (caret x y) ts = treesBehind x (y ∷ ts)
+treesBehind (caret x y) ts = treesBehind x (putTree y ts)
 
 -- The number of leaves of a tree.
 abbrev pub leaves : Tree → ℕ

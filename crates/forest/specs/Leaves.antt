@@ -4,11 +4,12 @@ use mathlib.Core.List.{List}
 use Prim.Native.Nat.{ℕ, _+_, _≤_}
 use lib.ListN.{length}
 use Rattle.lists.specs.Tables.{filled}
-use Rattle.group.specs.Forms.{bSide, aSide, exponent}
+use Rattle.group.specs.Forms.{Side, bSide, aSide, exponent, levels}
 use Rattle.group.specs.Products.{formOf}
 use Rattle.forest.specs.declared.row.State.{State}
 use Rattle.forest.specs.Filling.{cells, room}
-use Rattle.forest.specs.Forest.{Tree, leftEdges, leafExponent, treesBehind, leaves, forestLeaves}
+use Rattle.forest.specs.Forest.{Tree, rowTrees, rowOf, leftEdges, leafExponent, treesBehind}
+use Rattle.forest.specs.Forest.{leaves, forestLeaves}
 use Rattle.forest.specs.Cells.{Stands, StackStands}
 use Rattle.forest.specs.Moves.{stepWord, Scratch, Ran}
 
@@ -39,12 +40,39 @@ pub record Ended (word lefts rights stack : List ℕ) (s : State) : Type 0 where
   pub scratch : Scratch word lefts rights stack
   pub ran : Ran word lefts rights stack s
 
+-- The trees of the row of bytes, from the left.
+abbrev pub treesOf : List ℕ → List Tree
+treesOf word = rowTrees (rowOf (stepWord word))
+
+-- The scratch, with all these trees on the stack.
+pub record Piled (word lefts rights stack : List ℕ) (height : ℕ) : Type 0 where
+  pub scratch : Scratch word lefts rights stack
+  pub stack-stands : StackStands lefts rights cells (treesOf word) stack height
+
 -- Tables with an entry for each index up to the number of letters.
 pub record LongTables (word b a : List ℕ) : Type 0 where
   pub b-long : length word + 1 ≤ length b
   pub a-long : length word + 1 ≤ length a
 
--- Entry i of the tables, for each i up to the number of letters, is b_i and a_i of the form; the rest is unchanged.
-pub record Tabled (word b a b′ a′ : List ℕ) : Type 0 where
+-- The first levels of the form were written into the tables; no index behind them occurs.
+pub record LevelsRead (word b a b′ a′ : List ℕ) (read : ℕ) : Type 0 where
+  pub within : read ≤ length word + 1
+  pub behind : (s : Side) (i : ℕ) → read ≤ i → exponent s (formOf (stepWord word)) i ≡ 0
+  pub b-table : b′ ≡ filled read (exponent bSide (formOf (stepWord word))) b
+  pub a-table : a′ ≡ filled read (exponent aSide (formOf (stepWord word))) a
+
+-- Of a function that is 0 from `low` on: a table that was filled below `low` is filled below `high`.
+abbrev pub ZerosPut : (table : List ℕ) (low high : ℕ) (table′ : List ℕ) → Type 0
+ZerosPut table low high table′ =
+    (f : ℕ → ℕ) (t : List ℕ)
+    → high ≤ length t
+    → ((i : ℕ) → low ≤ i → f i ≡ 0)
+    → table ≡ filled low f t
+    → table′ ≡ filled high f t
+
+-- Entry i of the tables, for each i up to the number of letters, is b_i and a_i of the form; the rest is unchanged. As
+-- many levels as were read are all that the form has.
+pub record Tabled (word b a b′ a′ : List ℕ) (read : ℕ) : Type 0 where
   pub b-table : b′ ≡ filled (length word + 1) (exponent bSide (formOf (stepWord word))) b
   pub a-table : a′ ≡ filled (length word + 1) (exponent aSide (formOf (stepWord word))) a
+  pub levels-read : (levels (formOf (stepWord word)) ≤ read) × (read ≤ length word + 1)

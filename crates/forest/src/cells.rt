@@ -5,7 +5,7 @@ ghost use Prim.Native.Nat.{_≤_, _<_};
 ghost use lib.ListN.{length};
 ghost use Rattle.group.specs.Limits.{limit};
 ghost use Rattle.forest.specs.Filling.{cells};
-ghost use Rattle.forest.specs.Cells.{LeftCode, RightCode, Popped, Made};
+ghost use Rattle.forest.specs.Cells.{LeftCode, RightCode, Popped, Pushed, Made};
 use refusals::LIMIT;
 
 // The last code of a leaf.
@@ -43,6 +43,20 @@ pub fn pop(stack: &[u16], height: usize) -> Top
         tree: stack[top],
         height: top,
     }
+}
+
+// A tree put onto the stack; at its bottom no leaf of exponent 0 is stored.
+pub fn push(stack: &mut [u16], height: usize, tree: u16) -> usize
+    requires { ⌜ height < length (now stack) ⌝ }
+    ensures { λ r. ⌜ Pushed (now (stack .entry)) height tree (now (stack .exit)) r ⌝ }
+{
+    if height == 0 {
+        if tree == 0 {
+            return 0;
+        }
+    }
+    stack[height] = tree;
+    height + 1
 }
 
 // The left part of a tree.

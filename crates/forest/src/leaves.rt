@@ -1,8 +1,12 @@
 // The leaves of a row, read off into two tables: the exponents of the word's reduced form.
+ghost use Prim.Native.Nat.{_≤_};
+ghost use lib.ListN.{length};
 ghost use Rattle.forest.specs.Moves.{Scratch};
-ghost use Rattle.forest.specs.Leaves.{Standing, LeafRead, Ended, LongTables, Tabled};
+ghost use Rattle.forest.specs.Leaves.{Standing, LeafRead, Piled, Ended, LongTables};
+ghost use Rattle.forest.specs.Leaves.{LevelsRead, ZerosPut, Tabled};
 use crate::cells::LAST_LEAF;
 use crate::cells::pop;
+use crate::cells::push;
 use crate::cells::wide;
 use crate::row::State;
 use crate::row::run;
@@ -25,8 +29,7 @@ fn descend(lefts: &[u16], rights: &[u16], stack: &mut [u16], tree: u16, low: usi
     let mut height = low;
     while LAST_LEAF < code {
         let k = wide(code);
-        stack[height] = rights[k];
-        height += 1;
+        height = push(stack, height, rights[k]);
         code = lefts[k];
         edges += 1;
     }
@@ -37,7 +40,52 @@ fn descend(lefts: &[u16], rights: &[u16], stack: &mut [u16], tree: u16, low: usi
     }
 }
 
-// The leaves of the row, from the left, are the levels of the form; behind the row stand leaves of exponent 0.
+// The leaves on the stack, from the left, are the levels of the form; where it is empty, only leaves of exponent 0 are
+// left. How many levels were read.
+fn read_leaves(
+    word: &[u8],
+    low: usize,
+    lefts: &[u16],
+    rights: &[u16],
+    stack: &mut [u16],
+    b_table: &mut [u16],
+    a_table: &mut [u16],
+) -> usize
+    requires { ⌜ Piled (now word) (now lefts) (now rights) (now stack) low ⌝ }
+    requires { ⌜ LongTables (now word) (now «b_table») (now «a_table») ⌝ }
+    ensures { λ r. ⌜ LevelsRead (now (word .entry)) (now («b_table» .entry)) (now («a_table» .entry))
+        (now («b_table» .exit)) (now («a_table» .exit)) r ⌝ }
+{
+    let n = word.len();
+    let mut height = low;
+    let mut i = 0;
+    while i <= n {
+        if height == 0 {
+            return i;
+        }
+        let p = pop(stack, height);
+        let l = descend(lefts, rights, stack, p.tree, p.height);
+        b_table[i] = l.edges;
+        a_table[i] = l.exponent;
+        height = l.height;
+        i += 1;
+    }
+    i
+}
+
+// The entries from `low` on, up to `high`, become 0.
+fn zero_rest(table: &mut [u16], low: usize, high: usize)
+    requires { ⌜ (low ≤ high) × (high ≤ length (now table)) ⌝ }
+    ensures { λ _. ⌜ ZerosPut (now (table .entry)) low high (now (table .exit)) ⌝ }
+{
+    let mut i = low;
+    while i < high {
+        table[i] = 0;
+        i += 1;
+    }
+}
+
+// The leaves of the row, and behind them the zeros of the indices that do not occur. How many levels were read.
 fn read_off(
     word: &[u8],
     s: State,
@@ -46,29 +94,22 @@ fn read_off(
     stack: &mut [u16],
     b_table: &mut [u16],
     a_table: &mut [u16],
-)
+) -> usize
     requires { ⌜ Ended (now word) (now lefts) (now rights) (now stack) s ⌝ }
     requires { ⌜ LongTables (now word) (now «b_table») (now «a_table») ⌝ }
-    ensures { λ _. ⌜ Tabled (now (word .entry)) (now («b_table» .entry)) (now («a_table» .entry))
-        (now («b_table» .exit)) (now («a_table» .exit)) ⌝ }
+    ensures { λ r. ⌜ Tabled (now (word .entry)) (now («b_table» .entry)) (now («a_table» .entry))
+        (now («b_table» .exit)) (now («a_table» .exit)) r ⌝ }
 {
-    let n = word.len();
-    let low = s.height;
-    stack[low] = s.second;
-    stack[low + 1] = s.first;
-    let mut height = low + 2;
-    let mut i = 0;
-    while i <= n {
-        let p = pop(stack, height);
-        let l = descend(lefts, rights, stack, p.tree, p.height);
-        b_table[i] = l.edges;
-        a_table[i] = l.exponent;
-        height = l.height;
-        i += 1;
-    }
+    let low = push(stack, s.height, s.second);
+    let height = push(stack, low, s.first);
+    let read = read_leaves(word, height, lefts, rights, stack, b_table, a_table);
+    let end = word.len() + 1;
+    zero_rest(b_table, read, end);
+    zero_rest(a_table, read, end);
+    read
 }
 
-// The tables of a word: its row, then the leaves. The scratch is lent with any content.
+// The tables of a word: its row, then the leaves. The scratch is lent with any content. How many levels were read.
 pub fn fill(
     word: &[u8],
     b_table: &mut [u16],
@@ -76,12 +117,12 @@ pub fn fill(
     lefts: &mut [u16],
     rights: &mut [u16],
     stack: &mut [u16],
-)
+) -> usize
     requires { ⌜ Scratch (now word) (now lefts) (now rights) (now stack) ⌝ }
     requires { ⌜ LongTables (now word) (now «b_table») (now «a_table») ⌝ }
-    ensures { λ _. ⌜ Tabled (now (word .entry)) (now («b_table» .entry)) (now («a_table» .entry))
-        (now («b_table» .exit)) (now («a_table» .exit)) ⌝ }
+    ensures { λ r. ⌜ Tabled (now (word .entry)) (now («b_table» .entry)) (now («a_table» .entry))
+        (now («b_table» .exit)) (now («a_table» .exit)) r ⌝ }
 {
     let s = run(word, lefts, rights, stack);
-    read_off(word, s, lefts, rights, stack, b_table, a_table);
+    read_off(word, s, lefts, rights, stack, b_table, a_table)
 }

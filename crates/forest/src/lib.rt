@@ -1,16 +1,16 @@
 // The forest engine: the reduced form of a word, one letter in constant time.
 ghost use mathlib.Core.Path.{_≡_};
-ghost use Rattle.group.specs.Texts.{letterOf};
 ghost use Rattle.refusals.specs.Outcomes.{verdictOf, checked};
 ghost use Rattle.forest.specs.Judging.{judged};
 ghost use Rattle.forest.specs.Filling.{FilledTables};
-ghost use Rattle.forest.specs.Scanning.{isLetter, lettersInFront};
+use crate::letters::letters_in_front;
 use refusals::LIMIT;
 use refusals::Refusal;
 use refusals::Verdict;
 
 mod cells;
 mod leaves;
+mod letters;
 mod row;
 
 // The entries of `lefts` and of `rights`, scratch of `fill_tables`.
@@ -19,41 +19,12 @@ pub const CELLS: usize = LIMIT + LIMIT + 1;
 // The entries of `stack`, scratch of `fill_tables`.
 pub const ROOM: usize = LIMIT + 2;
 
-// The answer of `fill_tables`: done, a refusal of the word or the tables, or scratch of other sizes.
+// The answer of `fill_tables`: how many levels of the form it read; a refusal of the word or the tables; or scratch of
+// other sizes.
 pub enum Filling {
-    Filled,
+    Filled(usize),
     Refused(Refusal),
     Unfit,
-}
-
-// Whether a byte is a letter.
-fn is_letter(byte: u8) -> bool
-    ensures { λ r. ⌜ r ≡ isLetter (letterOf byte) ⌝ }
-{
-    if byte == b'a' {
-        return true;
-    }
-    if byte == b'A' {
-        return true;
-    }
-    if byte == b'b' {
-        return true;
-    }
-    byte == b'B'
-}
-
-// The offset of the first byte that is no letter, or the number of bytes.
-fn first_bad(word: &[u8]) -> usize
-    ensures { λ r. ⌜ r ≡ lettersInFront (now (word .entry)) ⌝ }
-{
-    let mut i = 0;
-    while i < word.len() {
-        if !is_letter(word[i]) {
-            return i;
-        }
-        i += 1;
-    }
-    i
 }
 
 // Refusals 1, 2 and 6, in this order; the lengths are those of the two tables.
@@ -64,7 +35,7 @@ pub fn judge(word: &[u8], b_length: usize, a_length: usize) -> Verdict
     if LIMIT < n {
         return Verdict::Refused(Refusal::TooManyLetters);
     }
-    let bad = first_bad(word);
+    let bad = letters_in_front(word);
     if bad < n {
         return Verdict::Refused(Refusal::NotLetter(bad));
     }
@@ -104,6 +75,6 @@ pub fn fill_tables(
     if let Verdict::Refused(r) = v {
         return Filling::Refused(r);
     }
-    leaves::fill(word, b_table, a_table, lefts, rights, stack);
-    Filling::Filled
+    let read = leaves::fill(word, b_table, a_table, lefts, rights, stack);
+    Filling::Filled(read)
 }

@@ -4,6 +4,7 @@ ghost use Rattle.forest.specs.Moves.{stepLetter, Ready, Moved, Scratch, 
 use crate::cells::join;
 use crate::cells::left_of;
 use crate::cells::pop;
+use crate::cells::push;
 use crate::cells::right_of;
 use refusals::LIMIT;
 
@@ -53,13 +54,12 @@ fn part_first(s: State, lefts: &[u16], rights: &[u16], stack: &mut [u16]) -> Sta
     ensures { λ r. ⌜ Moved 'A (now (lefts .entry)) (now (rights .entry)) (now (stack .entry)) s
         (now (lefts .entry)) (now (rights .entry)) (now (stack .exit)) r ⌝ }
 {
-    let h = s.height;
-    stack[h] = s.second;
+    let height = push(stack, s.height, s.second);
     let left = left_of(lefts, s.first);
     let right = right_of(rights, s.first);
     State {
         used: s.used,
-        height: h + 1,
+        height,
         first: left,
         second: right,
     }
@@ -71,13 +71,12 @@ fn part_second(s: State, lefts: &[u16], rights: &[u16], stack: &mut [u16]) -> St
     ensures { λ r. ⌜ Moved 'B (now (lefts .entry)) (now (rights .entry)) (now (stack .entry)) s
         (now (lefts .entry)) (now (rights .entry)) (now (stack .exit)) r ⌝ }
 {
-    let h = s.height;
     let left = left_of(lefts, s.second);
     let right = right_of(rights, s.second);
-    stack[h] = right;
+    let height = push(stack, s.height, right);
     State {
         used: s.used,
-        height: h + 1,
+        height,
         first: s.first,
         second: left,
     }

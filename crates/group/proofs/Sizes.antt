@@ -1,18 +1,14 @@
--- A word of n letters has a form whose exponents sum to at most n, and no index above n (01, 'The reduced form').
--- Assumes nothing.
-use mathlib.Core.Path.{_≡_, refl}
+-- A word of n letters has a form whose exponents sum to at most n, and no index above n (01, 'The reduced form'). How
+-- many levels a trimmed form has. Assumes nothing.
+use mathlib.Core.Path.{_≡_, refl, ap}
 use mathlib.Core.List.{[], _∷_}
 use Prim.Native.Nat.{ℕ, zero, suc, _+_, _<_, _≤_}
 use native.Mathlib.Omega.{arith}
 use lib.ListN.{length}
 use Rattle.group.specs.Letters.{Letter, 'a, 'A, 'b, 'B, Word}
-use Rattle.group.specs.Forms.{Side, bSide, aSide, Form, empty, level, exponent, exponentSum}
+use Rattle.group.specs.Forms.{Side, bSide, aSide, Form, empty, level, exponent, Trimmed, levels, exponentSum}
 use Rattle.group.specs.Products.{reduceLevel, timesX0, single, timesGenerator, timesLetter, formOf}
-
--- The number of levels. Every index that occurs is below it.
-abbrev pub levels : Form → ℕ
-levels empty = 0
-levels (level b a f) = suc (levels f)
+use Rattle.group.proofs.Exponents.{trimmed-above, trimmed-equal}
 
 -- What a product adds at most: one letter, and levels up to a height.
 record Adds (height : ℕ) (f g : Form) : Type 0 where
@@ -85,3 +81,11 @@ exponent-behind s (level b a f) (suc i) h = exponent-behind s f i (omega arith)
 -- No index above the number of letters occurs.
 pub form-index : (w : Word) (s : Side) (i : ℕ) → length w < i → exponent s (formOf w) i ≡ 0
 form-index w s i h = exponent-behind s (formOf w) i (omega (arith, form-levels w))
+
+-- Where no index from n on occurs, a trimmed form has at most n levels.
+pub trimmed-levels : (f : Form) (n : ℕ) → Trimmed f → ((s : Side) (i : ℕ) → n ≤ i → exponent s f i ≡ 0) → levels f ≤ n
+trimmed-levels empty n t h = omega arith
+trimmed-levels (level b a f) zero t h =
+    absurd (omega (arith, ap levels (trimmed-equal (level b a f) empty t tt (λ s i. h s i (omega arith)))))
+trimmed-levels (level b a f) (suc n) t h =
+    omega (arith, trimmed-levels f n (trimmed-above b a f t) (λ s i p. h s (suc i) (omega arith)))

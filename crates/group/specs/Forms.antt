@@ -2,7 +2,7 @@
 --     generator k     x_k by letters                  exponent s f i   b_i (bSide) or a_i (aSide)
 --     level b a f     b_0, a_0 and the levels above   letters f        the form written out in letters
 --     SameExponents   equal b_i and a_i at every i    exponentSum f    the number of its x_k and x_k⁻¹
---     Trimmed f       no level (0, 0) at the end
+--     Trimmed f       no level (0, 0) at the end      levels f         the number of its levels
 -- Assumes nothing.
 use mathlib.Core.Path.{_≡_}
 use mathlib.Core.List.{[], _∷_, _++_}
@@ -46,6 +46,11 @@ abbrev pub Trimmed : Form → Type 0
 Trimmed empty = Unit {0}
 Trimmed (level b a empty) = 0 < b + a
 Trimmed (level b a (level c d f)) = Trimmed (level c d f)
+
+-- The number of levels. Every index that occurs is below it.
+abbrev pub levels : Form → ℕ
+levels empty = 0
+levels (level b a f) = suc (levels f)
 
 -- The sum of all exponents, which is the number of the form's letters x_k and x_k⁻¹.
 abbrev pub exponentSum : Form → ℕ

@@ -1,11 +1,12 @@
--- Laws of filled tables: their length, and their entries. Assumes nothing.
+-- Laws of filled tables: their length, their entries, and filling one entry at a time. Assumes nothing.
 use mathlib.Core.Path.{_≡_, refl, sym, ap, _∙_}
-use mathlib.Core.List.{List, _∷_, _++_}
+use mathlib.Core.List.{List, [], _∷_, _++_}
 use Prim.Native.Nat.{ℕ, zero, suc, _+_, _-_, _<_, _≤_}
 use native.Mathlib.Nat.{not-suc-le-zero, le-of-suc-le-suc}
+use native.Mathlib.Numerals.{add-one}
 use native.Mathlib.Omega.{arith}
 use native.Mathlib.Decide.{decLe}
-use lib.ListN.{length, take, drop, getD, replicate, length-append, length-drop, List·getD-append}
+use lib.ListN.{length, take, drop, getD, set, replicate, length-append, length-drop, List·getD-append}
 use lib.Seq.{ext-getD, getD-append-add, getD-drop}
 use Rattle.lists.specs.Tables.{values, filled}
 
@@ -60,6 +61,27 @@ filled-by m f t u h e low high =
     go : (i : ℕ) → Dec (i < m) → getD u i 0 ≡ getD (filled m f t) i 0
     go i (yes c) = low i c ∙ sym (filled-at m f t i c)
     go i (no c) = high i (omega arith) ∙ sym (filled-beyond m f t i (omega arith))
+
+-- Filled one entry at a time, from the first.
+pub filled-none : (f : ℕ → ℕ) (t : List ℕ) → t ≡ filled 0 f t
+unfolding values
+filled-none f t = refl
+
+filled-next : (i : ℕ) (f : ℕ → ℕ) (t : List ℕ) → i < length t → set (filled i f t) i (f i) ≡ filled (suc i) f t
+unfolding values
+filled-next i f [] h = absurd (omega arith)
+filled-next zero f (y ∷ t) h = refl
+filled-next (suc i) f (y ∷ t) h =
+    ap (λ (l : List ℕ). f 0 ∷ l) (filled-next i (λ j. f (suc j)) t (le-of-suc-le-suc h))
+
+-- The entry at i is stored into what the table is by now.
+pub filled-more : (i : ℕ) (f : ℕ → ℕ) (t now : List ℕ) (v : ℕ) → i < length t → now ≡ filled i f t → v ≡ f i
+    → set now i v ≡ filled (i + 1) f t
+filled-more i f t now v h e g =
+    ap (λ (l : List ℕ). set l i v) e
+    ∙ ap (set (filled i f t) i) g
+    ∙ filled-next i f t h
+    ∙ ap (λ (k : ℕ). filled k f t) (sym (add-one i))
 
 -- The front of a filled table.
 values-front : (n m : ℕ) (f : ℕ → ℕ) (u : List ℕ) → n ≤ m → take n (values m f ++ u) ≡ values n f

@@ -9,12 +9,12 @@ use borrow.Author.Tests.{le-ltb, eq-eqb}
 use Rattle.lists.specs.Tables.{values, filled}
 use Rattle.lists.proofs.Tables.{values-length, filled-front}
 use Rattle.group.specs.Letters.{Word}
-use Rattle.group.specs.Forms.{Side, bSide, aSide, exponent, exponentSum}
+use Rattle.group.specs.Forms.{Side, bSide, aSide, levels, exponent}
 use Rattle.group.specs.Products.{formOf}
 use Rattle.group.specs.Limits.{limit}
 use Rattle.group.proofs.Bytes.{read-length}
-use Rattle.group.proofs.Sizes.{levels, form-sum}
-use Rattle.refusals.specs.Outcomes.{Outcome, accepted, after, valued}
+use Rattle.group.proofs.Sizes.{form-sum}
+use Rattle.refusals.specs.Outcomes.{Outcome, accepted, after, valued, checked}
 use Rattle.refusals.proofs.Outcomes.{accepted-same}
 use Rattle.records.specs.Format.{recordOf, encode, bufferSize}
 use Rattle.records.specs.Contracts.{encodingOf, encoded, Encoded}
@@ -22,8 +22,10 @@ use Rattle.records.specs.declared.Encoding.{Encoding}
 use Rattle.records.specs.declared.Encoding.the-variants.{Bytes, Refused, Unfit}
 use Rattle.records.proofs.FormTables.{record-values}
 use Rattle.records.proofs.Lengths.{encode-size}
-use Rattle.forest.specs.Filling.{cells, room, judgedIn, tableAfter}
-use Rattle.words.specs.Recording.{memory, recordOfWord, recorded, bufferAfter, Ready, WordWritten, bytesWritten}
+use Rattle.forest.specs.Filling.{cells, room, judgedIn, fillingOf, tableAfter, FilledTables}
+use Rattle.forest.specs.declared.Filling.{Filling}
+use Rattle.forest.specs.declared.Filling.the-variants.{Filled, Refused as NotFilled, Unfit as NoScratch}
+use Rattle.words.specs.Recording.{memory, recordOfWord, recorded, bufferAfter, Ready, WordWritten, bytesWritten, levelsRead}
 use Rattle.words.proofs.Judged.{RecordFit, accepted-record}
 
 -- The number of bytes of a record, where it was written.
@@ -31,6 +33,12 @@ pub bytes-written : (e : Encoding) (n : ℕ) → encodingOf e ≡ accepted n →
 bytes-written (Bytes k) n h = accepted-same h
 bytes-written (Refused r) n h = let z : _≡_ {A = ℕ} 0 1 = cc in absurd (omega arith)
 bytes-written Unfit n h = let z : _≡_ {A = ℕ} 0 1 = cc in absurd (omega arith)
+
+-- The number of levels read, where the tables were filled.
+filled-count : (f : Filling) → fillingOf f ≡ accepted 0 → f ≡ Filled (levelsRead f)
+filled-count (Filled n) h = refl
+filled-count (NotFilled r) h = let z : _≡_ {A = ℕ} 0 1 = cc in absurd (omega arith)
+filled-count NoScratch h = let z : _≡_ {A = ℕ} 0 1 = cc in absurd (omega arith)
 
 module _ {word b a buffer lefts rights stack : List ℕ} (h : Ready word (memory b a buffer) lefts rights stack) where
   abbrev pub theWord : Word
@@ -51,6 +59,14 @@ module _ {word b a buffer lefts rights stack : List ℕ} (h : Ready word (memory
         eq-eqb (length stack) room (h .stack-length),
       )
       (word-fit .judged-so)
+
+  -- How many levels it read.
+  pub engine-levels : {b′ a′ lefts′ rights′ stack′ : List ℕ} {f : Filling}
+      → FilledTables word b a lefts rights stack b′ a′ lefts′ rights′ stack′ f
+      → (levels (formOf theWord) ≤ levelsRead f) × (levelsRead f ≤ length theWord + 1)
+  engine-levels {b′} {a′} {lefts′} {rights′} {stack′} {f} t =
+      let so = t .result ∙ ap (λ (o : Outcome Word). checked o) engine-accepts in
+      t .levels-read (levelsRead f) (filled-count f so) theWord engine-accepts
 
   -- The table that the engine leaves.
   pub engine-table : (s : Side) (t t′ : List ℕ) → t′ ≡ tableAfter s (judgedIn word b a lefts rights stack) t

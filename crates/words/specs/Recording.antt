@@ -19,6 +19,8 @@ use Rattle.records.specs.Format.{encode, bufferSize}
 use Rattle.records.specs.declared.Encoding.{Encoding}
 use Rattle.records.specs.declared.Encoding.the-variants.{Bytes, Refused, Unfit}
 use Rattle.forest.specs.Judging.{judged}
+use Rattle.forest.specs.declared.Filling.{Filling}
+use Rattle.forest.specs.declared.Filling.the-variants.{Filled, Refused as NotFilled, Unfit as NoScratch}
 use Rattle.forest.specs.Filling.{cells, room, tableAfter}
 
 -- The record of a word.
@@ -85,3 +87,9 @@ abbrev pub bytesWritten : Encoding → ℕ
 bytesWritten (Bytes n) = n
 bytesWritten (Refused r) = 0
 bytesWritten Unfit = 0
+
+-- The number of levels that the engine read.
+abbrev pub levelsRead : Filling → ℕ
+levelsRead (Filled n) = n
+levelsRead (NotFilled r) = 0
+levelsRead NoScratch = 0

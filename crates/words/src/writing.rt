@@ -2,8 +2,9 @@
 ghost use mathlib.Core.Path.{_≡_};
 ghost use Prim.Native.Nat.{_≤_};
 ghost use lib.ListN.{length, take};
-ghost use Rattle.words.specs.Recording.{memory, bytesWritten, Accepts, Ready, WordWritten};
+ghost use Rattle.words.specs.Recording.{memory, bytesWritten, levelsRead, Accepts, Ready, WordWritten};
 ghost use Rattle.words.specs.Comparing.{SameBytes, TwoWritten};
+use forest::Filling;
 use records::Encoding;
 
 // The number of bytes of a record that was written.
@@ -14,6 +15,17 @@ fn bytes_written(encoding: Encoding) -> usize
         Encoding::Bytes(n) => n,
         Encoding::Refused(_) => 0,
         Encoding::Unfit => 0,
+    }
+}
+
+// The number of levels that the engine read.
+fn levels_read(filling: Filling) -> usize
+    ensures { λ r. ⌜ r ≡ levelsRead filling ⌝ }
+{
+    match filling {
+        Filling::Filled(n) => n,
+        Filling::Refused(_) => 0,
+        Filling::Unfit => 0,
     }
 }
 
@@ -33,8 +45,8 @@ pub fn write_word(
         (memory (now («b_table» .entry)) (now («a_table» .entry)) (now («record» .entry)))
         (memory (now («b_table» .exit)) (now («a_table» .exit)) (now («record» .exit))) r ⌝ }
 {
-    let _filling = forest::fill_tables(word, b_table, a_table, lefts, rights, stack);
-    let n = word.len() + 1;
+    let filling = forest::fill_tables(word, b_table, a_table, lefts, rights, stack);
+    let n = levels_read(filling);
     let encoding = records::write_record(&b_table[..n], &a_table[..n], record);
     bytes_written(encoding)
 }

@@ -29,44 +29,40 @@ loop-holds c =
 wide-requires : tie.Need-wide-requires Inv-loop μ-loop
 wide-requires c κs = tt
 
-mul-stack : tie.Need-mul-stack Inv-loop μ-loop
-mul-stack c = omega arith
+mul-push : tie.Need-mul-push Inv-loop μ-loop
+mul-push c = omega arith
 
-shared-slice-read-stack : tie.Need-shared-slice-read-stack Inv-loop μ-loop
-shared-slice-read-stack c = omega (arith, turn (c .before .before))
+shared-slice-read-push : tie.Need-shared-slice-read-push Inv-loop μ-loop
+shared-slice-read-push c = omega (arith, turn (c .before .before .before))
 
-mul-stack-2 : tie.Need-mul-stack-2 Inv-loop μ-loop
-mul-stack-2 c = omega (arith, turn (c .before .before))
-
-slice-write-stack : tie.Need-slice-write-stack Inv-loop μ-loop
-slice-write-stack c = omega (arith, turn (c .before .before))
-
-add-height : tie.Need-add-height Inv-loop μ-loop
-add-height c = omega (arith, turn (c .before .before))
+push-requires : tie.Need-push-requires Inv-loop μ-loop
+push-requires c κs = omega (arith, turn (c .before .before .before))
 
 mul-code : tie.Need-mul-code Inv-loop μ-loop
-mul-code c = omega (arith, turn (c .before .before))
+mul-code c = omega arith
 
 shared-slice-read-code : tie.Need-shared-slice-read-code Inv-loop μ-loop
-shared-slice-read-code c = omega (arith, turn (c .before .before .before))
+shared-slice-read-code c = omega (arith, turn (c .before .before .before .before .before .before .before))
 
 add-edges : tie.Need-add-edges Inv-loop μ-loop
-add-edges c = omega (arith, turn (c .before .before .before))
+add-edges c = omega (arith, turn (c .before .before .before .before .before .before .before))
 
 loop-less : tie.Need-loop-less Inv-loop μ-loop
 loop-less c =
-    let lefts = c .before .before .before .before .before .before .before .before .args .lefts .now in
-    let at = c .before .before .before .before .loop .code in
-    let k = c .before .before .wide in
-    let same : getD lefts (k .result) 0 ≡ getD lefts at 0 = ap (λ (j : ℕ). getD lefts j 0) (k .ensures) in
-    omega (arith, turn (c .before .before .before), same)
+    let at = c .before .before .before .before .before .before .before in
+    let lefts = at .before .before .before .before .before .args .lefts .now in
+    let k = c .before .before .before .before .before .before .wide in
+    let same : getD lefts (k .result) 0 ≡ getD lefts (at .before .loop .code) 0 =
+    ap (λ (j : ℕ). getD lefts j 0) (k .ensures) in
+    omega (arith, turn at, same)
 
 loop-again : tie.Need-loop-again Inv-loop μ-loop
 loop-again c =
-    let at = c .before .before .before in
-    let k = c .before .before .wide in
-    walk-more (at .before .loop .inv) (k .result) (k .ensures) (at .loop-test .taken) (omega (arith, turn at))
-    (turn at .lower)
+    let push = c .before .before .before .push in
+    let k = c .before .before .before .before .before .before .wide in
+    let at = c .before .before .before .before .before .before .before in
+    walk-more (at .before .loop .inv) (k .result) (k .ensures) (at .loop-test .taken) (turn at .lower)
+    (push .kept .0) (push .ensures)
 
 same-length : tie.Need-same-length Inv-loop μ-loop
 same-length c = c .before .loop .inv .same
@@ -82,11 +78,9 @@ descend-spec =
     μ-loop
     loop-holds
     wide-requires
-    mul-stack
-    shared-slice-read-stack
-    mul-stack-2
-    slice-write-stack
-    add-height
+    mul-push
+    shared-slice-read-push
+    push-requires
     mul-code
     shared-slice-read-code
     add-edges

@@ -1,6 +1,5 @@
 -- `row::part_second` meets its contract: the letter B.
 -- Assumes nothing.
-use native.Mathlib.Omega.{arith}
 use borrow.Author.Needs.{needs}
 use Rattle.forest.proofs.Moving.{parted-second}
 use Rattle.forest.proofs.row.part_second.Statement.{statement}
@@ -12,22 +11,18 @@ left-of-requires c κs = search needs
 right-of-requires : tie.Need-right-of-requires
 right-of-requires c κs = search needs
 
-mul-stack : tie.Need-mul-stack
-mul-stack c = search needs
-
-slice-write-stack : tie.Need-slice-write-stack
-slice-write-stack c = search needs
-
-add-t8 : tie.Need-add-t8
-add-t8 c = search needs
+push-requires : tie.Need-push-requires
+push-requires c κs = search needs
 
 same-length : tie.Need-same-length
 same-length c = search needs
 
 returns : tie.Need-returns
-returns c = parted-second _ _ _ _ _ _ (omega arith) (c .before .left-of .ensures) (c .right-of .ensures)
+returns c =
+    let call = c .before .before in
+    let parts = call .before .before in
+    parted-second _ _ _ _ _ _ _ _ (call .push .ensures) (parts .before .left-of .ensures) (parts .right-of .ensures)
 
 pub part-second-spec : {M : Type 1} → statement M
 part-second-spec =
-    tie.close
-    (tie.spec left-of-requires right-of-requires mul-stack slice-write-stack add-t8 same-length returns)
+    tie.close (tie.spec left-of-requires right-of-requires push-requires same-length returns)

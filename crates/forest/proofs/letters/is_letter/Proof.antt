@@ -1,9 +1,9 @@
--- `is_letter` meets its contract.
+-- `letters::is_letter` meets its contract.
 -- Assumes nothing.
 use borrow.Author.Tests.{eq-eqb, ne-eqb}
 use Rattle.forest.proofs.Scanning.{letter-last}
-use Rattle.forest.proofs.is_letter.Statement.{statement}
-use Rattle.forest.proofs.is_letter.Tie as tie
+use Rattle.forest.proofs.letters.is_letter.Statement.{statement}
+use Rattle.forest.proofs.letters.is_letter.Tie as tie
 
 returns : tie.Need-returns
 returns c = simp (eq-eqb _ _ (c .if1 .taken))

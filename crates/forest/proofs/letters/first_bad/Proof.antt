@@ -1,4 +1,4 @@
--- `first_bad` meets its contract: what is left gives the whole.
+-- `letters::first_bad` meets its contract: what is left gives the whole.
 -- Assumes nothing.
 use mathlib.Core.Path.{_≡_, sym, _∙_}
 use Prim.Native.Nat.{_+_, _-_, _≤_}
@@ -7,8 +7,8 @@ use lib.ListN.{length, drop}
 use borrow.Author.Tests.{not-true, not-false}
 use Rattle.forest.specs.Scanning.{lettersInFront}
 use Rattle.forest.proofs.Scanning.{bad-here, bad-later, bad-none}
-use Rattle.forest.proofs.first_bad.Statement.{statement}
-use Rattle.forest.proofs.first_bad.Tie as tie
+use Rattle.forest.proofs.letters.first_bad.Statement.{statement}
+use Rattle.forest.proofs.letters.first_bad.Tie as tie
 
 abbrev Inv-loop : tie.InvT-loop
 Inv-loop word i₀ i = (i ≤ length word) × (i + lettersInFront (drop i word) ≡ lettersInFront word)
