@@ -18,7 +18,7 @@ use Rattle.refusals.proofs.Outcomes.{accepted-refused, checked-refused}
 use Rattle.records.specs.Reading.{decode}
 use Rattle.records.specs.Faults.{Bytes}
 use Rattle.words.specs.Recording.{Memory, judgedWith, recordOfWord, recorded, Left, Recorded}
-use Rattle.words.specs.Comparing.{Decision, same, different, refusedWord, decided, decisionOf, sameBytes, beside, Compared}
+use Rattle.words.specs.Comparing.{same, different, refusedWord, decided, decisionOf, sameBytes, beside, Compared}
 use Rattle.words.specs.declared.Comparison.{Comparison}
 use Rattle.words.proofs.Compared.{same-bytes, bytes-same}
 use Rattle.claims.specs.Refusals.{WordRefusal, long, unlettered, shortTable, shortBuffer, NoWordRefusal}

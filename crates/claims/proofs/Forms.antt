@@ -1,4 +1,4 @@
--- The claims of specs.Forms.antt, proved. Assumes nothing.
+-- The claims of specs/Forms.antt, proved. Assumes nothing.
 use Rattle.group.proofs.Products.{form-joined}
 use Rattle.group.proofs.Reduced.{form-reduced, form-trimmed}
 use Rattle.group.proofs.Theorems.{form-map, forms↔joined, forms↔maps, unique-exponents, the-form, the-form-joined}

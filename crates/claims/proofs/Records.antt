@@ -140,7 +140,8 @@ call-keeps-map {u} {m} {m′} {r} {n} {w} h e b =
     record {
       form = formOf w;
       reads =
-          ap decode (call .front) ∙ decode-encode (formOf w) (form-canonical w) (form-within w (judged-within u m w so));
+          ap decode (call .front) ∙ decode-encode (formOf w) (form-canonical w) (form-within w (judged-within u m w
+          so));
       reduced = form-reduced w;
       same-map = form-map w;
       b-table = table-at w bSide (m .b) (m′ .b) tb;
@@ -153,6 +154,7 @@ call-keeps-map {u} {m} {m′} {r} {n} {w} h e b =
             ∙ ap (λ (o : Outcome Word). bufferAfter o (m .buffer)) so
             ∙ sets-eq (recordOfWord w) (m .buffer) 0 fits)
             ∙ drop-at (recordOfWord w) (drop (0 + length (recordOfWord w)) (m .buffer)) n (sym (call .count))
-            ∙ ap (λ (k : ℕ). drop k (m .buffer)) (let z : 0 + length (recordOfWord w) ≡ n = omega (arith, call .count) in z),
+            ∙ ap (λ (k : ℕ). drop k (m .buffer)) (let z : 0 + length (recordOfWord w) ≡ n = omega (arith, call .count)
+            in z),
       );
     }

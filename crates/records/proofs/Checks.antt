@@ -31,7 +31,8 @@ zeros-at (suc n) zero = refl
 zeros-at (suc n) (suc i) = zeros-at n i
 
 -- The powers that are read give the form's exponents.
-pub form-below : (s : List ℕ) (d : Side) (i : ℕ) → i < suc limit → exponentAt (sidePowers d s) i ≡ exponent d (formRead s) i
+pub form-below : (s : List ℕ) (d : Side) (i : ℕ) → i < suc limit → exponentAt (sidePowers d s) i ≡ exponent d (formRead
+    s) i
 form-below s bSide i h = sym (upTo-below (suc limit) (exponentAt (bPowers s)) (exponentAt (aPowers s)) bSide i h)
 form-below s aSide i h = sym (upTo-below (suc limit) (exponentAt (bPowers s)) (exponentAt (aPowers s)) aSide i h)
 

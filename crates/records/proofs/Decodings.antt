@@ -104,7 +104,12 @@ module _ (s b a : List ℕ) (h : Accepts s) where
 
 -- An accepted record is framed, and its entries are proper.
 pub accepts-ordered : (s : List ℕ) (n m : ℕ) → Accepts s → frameOf s ≡ Exact n m → Ordered s n m
-accepts-ordered s n m h e = record { framed = e; b-proper = h .reading .proper bSide; a-proper = h .reading .proper aSide }
+accepts-ordered s n m h e = record {
+  framed = e;
+  b-proper = h .reading .proper bSide;
+  a-proper = h .reading .proper
+      aSide;
+}
 
 pub accepts-framed : (s : List ℕ) → Accepts s → frameOf s ≡ Broken → ⊥
 accepts-framed s h e =

@@ -16,7 +16,8 @@ use Rattle.records.proofs.Framing.{frames→frame}
 pub frame-short : (s : List ℕ) → length s < baseSize → Broken ≡ frameOf s
 frame-short s h = simp (lt-ltb (length s) baseSize h)
 
-pub frame-cut : (s : List ℕ) (b : ℕ) → baseSize ≤ length s → b ≡ bLength s → length s < baseSize + b → Broken ≡ frameOf s
+pub frame-cut : (s : List ℕ) (b : ℕ) → baseSize ≤ length s → b ≡ bLength s → length s < baseSize + b → Broken ≡ frameOf
+    s
 frame-cut s b h e lt = simp (le-ltb (length s) baseSize h, lt-ltb (length s) (aStart s) (omega (arith, lt, e)))
 
 -- Bytes long enough for both heads, and the two lengths that were read.

@@ -38,7 +38,8 @@ pub record Encoded (b a buffer buffer′ : List ℕ) (r : Encoding) : Type 0 whe
 -- every index up to the limit.
 abbrev pub decodedIn : (s : List ℕ) (nb na : ℕ) → Outcome Form
 decodedIn s nb na =
-    then (decode s) (λ f. cond (ltb nb (suc limit)) (refused 6 0) (cond (ltb na (suc limit)) (refused 6 0) (accepted f)))
+    then (decode s) (λ f. cond (ltb nb (suc limit)) (refused 6 0) (cond (ltb na (suc limit)) (refused 6 0) (accepted
+    f)))
 
 -- A table at exit: entry i is the exponent of index i for each i up to the limit; everything beyond is unchanged.
 abbrev pub tableRead : Side → Outcome Form → List ℕ → List ℕ

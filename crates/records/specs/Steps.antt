@@ -6,6 +6,7 @@ use Prim.Native.Nat.{ℕ, zero, suc, _+_, _/_, _≤_, _<_}
 use lib.ListN.{length, getD, set}
 use lib.Dec.{eqb, ltb}
 use Rattle.group.specs.Forms.{Side, bSide, aSide, Form, exponent}
+use Rattle.lists.specs.Tables.{filled}
 use Rattle.group.specs.Limits.{limit}
 use Rattle.refusals.specs.Outcomes.{Outcome, accepted, refused, then, verdictOf, checked}
 use Rattle.refusals.specs.declared.Verdict.{Verdict}
@@ -14,7 +15,8 @@ use Rattle.records.specs.declared.reading.Frame.the-variants.{Exact, Bro
 use Rattle.records.specs.declared.reading.Scan.{Scan}
 use Rattle.records.specs.declared.reading.Scan.the-variants.{Sum, Fault}
 use Rattle.records.specs.Format.{Power, power}
-use Rattle.records.specs.Reading.{bLength, aLength, aStart, frames, both, scan, bPowers, aPowers, firstBreak}
+use Rattle.records.specs.Reading.{bLength, aLength, aStart, frames, both, scan}
+use Rattle.records.specs.Reading.{bPowers, aPowers, exponentAt, firstBreak}
 
 -- The lengths of the bodies where the fields frame the bytes.
 abbrev pub frameOf : List ℕ → Frame
@@ -56,3 +58,8 @@ Shown f b a = (i : ℕ) → i ≤ suc limit → (getD b i 0 ≡ exponent bSide f
 -- The clause was tested for each form that the tables show.
 abbrev pub BreakFound : List ℕ → List ℕ → Verdict → Type 0
 BreakFound b a r = (f : Form) → Shown f b a → verdictOf r ≡ checked (firstBreak f 0 (suc limit))
+
+-- Both tables hold the exponents of the fields by index, up to the limit; everything beyond is unchanged.
+pub record FieldsFilled (s b a b′ a′ : List ℕ) : Type 0 where
+  pub b-table : b′ ≡ filled (suc limit) (exponentAt (bPowers s)) b
+  pub a-table : a′ ≡ filled (suc limit) (exponentAt (aPowers s)) a

@@ -60,7 +60,8 @@ pub fn check_record(record: &[u8]) -> Verdict
 
 // The exponents of a record, by index: refusals 3, 4 and 5, then 6; each table needs LIMIT + 1 entries.
 pub fn record_to_tables(record: &[u8], b_table: &mut [u16], a_table: &mut [u16]) -> Verdict
-    ensures { λ r. ⌜ Decoded (now («record» .entry)) (now («b_table» .entry)) (now («a_table» .entry)) (now («b_table» .exit)) (now («a_table» .exit)) r ⌝ }
+    ensures { λ r. ⌜ Decoded (now («record» .entry)) (now («b_table» .entry)) (now («a_table» .entry))
+        (now («b_table» .exit)) (now («a_table» .exit)) r ⌝ }
 {
     let verdict = check_record(record);
     let Verdict::Accepted = verdict else {

@@ -7,7 +7,8 @@ ghost use Rattle.group.specs.Limits.{limit};
 ghost use Rattle.refusals.specs.Outcomes.{verdictOf, checked};
 ghost use Rattle.records.specs.Reading.{twoAt, bLength, aLength, frames, entriesAt, bPowers, aPowers, exponentAt};
 ghost use Rattle.records.specs.Reading.{faulty as isFaulty, scan as scanned, reducedForm};
-ghost use Rattle.records.specs.Steps.{frameOf, scanOf, scanBoth, isBreak, Proper, Ordered, placed, BreakFound};
+ghost use Rattle.records.specs.Steps.{frameOf, scanOf, scanBoth, isBreak, Proper, Ordered, placed};
+ghost use Rattle.records.specs.Steps.{BreakFound, FieldsFilled};
 use super::A_TAG;
 use super::B_TAG;
 use super::BASE_SIZE;
@@ -167,7 +168,8 @@ fn fill_table(s: &[u8], start: usize, count: usize, table: &mut [u16])
     requires { ⌜ start + 4 * count ≤ length (now s) ⌝ }
     requires { ⌜ limit < length (now table) ⌝ }
     requires { ⌜ Proper 0 (entriesAt (now s) start count) ⌝ }
-    ensures { λ _. ⌜ now (table .exit) ≡ filled (suc limit) (exponentAt (entriesAt (now (s .entry)) start count)) (now (table .entry)) ⌝ }
+    ensures { λ _. ⌜ now (table .exit) ≡ filled (suc limit) (exponentAt (entriesAt (now (s .entry)) start count))
+        (now (table .entry)) ⌝ }
 {
     clear(table);
     place_powers(s, start, count, table);
@@ -214,7 +216,8 @@ pub fn fill_fields(
 )
     requires { ⌜ Ordered (now s) «b_length» «a_length» ⌝ }
     requires { ⌜ (limit < length (now «b_table»)) × (limit < length (now «a_table»)) ⌝ }
-    ensures { λ _. ⌜ (now («b_table» .exit) ≡ filled (suc limit) (exponentAt (bPowers (now (s .entry)))) (now («b_table» .entry))) × (now («a_table» .exit) ≡ filled (suc limit) (exponentAt (aPowers (now (s .entry)))) (now («a_table» .entry))) ⌝ }
+    ensures { λ _. ⌜ FieldsFilled (now (s .entry)) (now («b_table» .entry)) (now («a_table» .entry))
+        (now («b_table» .exit)) (now («a_table» .exit)) ⌝ }
 {
     fill_table(s, 3, b_length / 4, b_table);
     fill_table(s, BASE_SIZE + b_length, a_length / 4, a_table);

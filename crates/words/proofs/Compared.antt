@@ -161,7 +161,8 @@ module _ (word1 : List ℕ) (m1 m1′ : Memory) (word2 : List ℕ) (m2 m2′ : M
       own m m′ word left e = subst (λ (o : Outcome Word). Left o m m′) e left
 
 -- A refused word's call.
-pub refused-recorded : (word : List ℕ) (m : Memory) (v : Verdict) (r : Refusal) → verdictOf v ≡ checked (judgedWith word m)
+pub refused-recorded : (word : List ℕ) (m : Memory) (v : Verdict) (r : Refusal) → verdictOf v ≡ checked (judgedWith
+    word m)
     → v ≡ Refused r → Recorded word m m (NotWritten r)
 refused-recorded word m v r h e =
     let so = verdict-refused (judgedWith word m) v r h e in

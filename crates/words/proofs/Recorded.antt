@@ -25,7 +25,8 @@ use Rattle.records.proofs.Lengths.{encode-size}
 use Rattle.forest.specs.Filling.{cells, room, judgedIn, fillingOf, tableAfter, FilledTables}
 use Rattle.forest.specs.declared.Filling.{Filling}
 use Rattle.forest.specs.declared.Filling.the-variants.{Filled, Refused as NotFilled, Unfit as NoScratch}
-use Rattle.words.specs.Recording.{memory, recordOfWord, recorded, bufferAfter, Ready, WordWritten, bytesWritten, levelsRead}
+use Rattle.words.specs.Recording.{memory, recordOfWord, recorded, bufferAfter, Ready, WordWritten}
+use Rattle.words.specs.Recording.{bytesWritten, levelsRead}
 use Rattle.words.proofs.Judged.{RecordFit, accepted-record}
 
 -- The number of bytes of a record, where it was written.

@@ -33,10 +33,12 @@ returns-2 : tie.Need-returns-2
 returns-2 c = sym (ap (λ (d : Comparison). codeOfDecision (decisionOf d)) (c .enum-told2 .given .1))
 
 returns-3 : tie.Need-returns-3
-returns-3 c = c .refused .ensures ∙ first-code (c .before .before .c .given .0 .0) ∙ sym (ap (λ (d : Comparison). codeOfDecision (decisionOf d)) (c .before .before .c .given .1))
+returns-3 c = c .refused .ensures ∙ first-code (c .before .before .c .given .0 .0) ∙ sym (ap (λ (d : Comparison).
+    codeOfDecision (decisionOf d)) (c .before .before .c .given .1))
 
 returns-4 : tie.Need-returns-4
-returns-4 c = c .second .ensures ∙ sym (ap (λ (d : Comparison). codeOfDecision (decisionOf d)) (c .before .before .c2 .given .1))
+returns-4 c = c .second .ensures ∙ sym (ap (λ (d : Comparison). codeOfDecision (decisionOf d)) (c .before .before .c2
+    .given .1))
 
 pub from-comparison-spec : {M : Type 1} → statement M
 from-comparison-spec =

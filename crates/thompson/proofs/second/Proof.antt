@@ -21,7 +21,11 @@ place-requires : tie.Need-place-requires
 place-requires c κs = search needs
 
 returns : tie.Need-returns
-returns c = let e : c .before .number .result + 256 ≡ 256 + numberOf (c .before .before .args .r) = omega (arith, c .before .number .ensures) in ap₂ answer e (c .place .ensures)
+returns c = let e : c .before .number .result + 256 ≡ 256 + numberOf (c .before .before .args .r) = omega (
+  arith,
+  c
+      .before .number .ensures,
+) in ap₂ answer e (c .place .ensures)
 
 pub second-spec : {M : Type 1} → statement M
 second-spec = tie.close (tie.spec number-requires cast-t3 add-t4 place-requires returns)

@@ -30,7 +30,13 @@ same-length-6 : tie.Need-same-length-6
 same-length-6 c = search needs
 
 returns : tie.Need-returns
-returns c = let call = c .before .before .before .before .before .before .before .before .before .before .before .before .before .same-element .ensures in record { result = c .from-comparison .ensures ∙ ap codeOfDecision (call .result); leaves1 = call .leaves1; leaves2 = call .leaves2 }
+returns c = let call = c .before .before .before .before .before .before .before .before .before .before .before
+    .before .before .same-element .ensures in record {
+      result = c .from-comparison .ensures ∙ ap codeOfDecision (call
+          .result);
+      leaves1 = call .leaves1;
+      leaves2 = call .leaves2;
+    }
 
 pub thompson-same-element-spec : {M : Type 1} → statement M
 thompson-same-element-spec =

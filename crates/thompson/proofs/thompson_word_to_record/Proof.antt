@@ -21,7 +21,10 @@ same-length-3 : tie.Need-same-length-3
 same-length-3 c = search needs
 
 returns : tie.Need-returns
-returns c = let call = c .before .before .before .before .before .before .before .word-to-record .ensures in record { result = c .from-written .ensures ∙ ap codeOf (call .result); leaves = call .leaves }
+returns c = let call = c .before .before .before .before .before .before .before .word-to-record .ensures in record {
+  result = c .from-written .ensures ∙ ap codeOf (call .result);
+  leaves = call .leaves;
+}
 
 pub thompson-word-to-record-spec : {M : Type 1} → statement M
 thompson-word-to-record-spec =

@@ -12,7 +12,11 @@ enum-known-verdict : tie.Need-enum-known-verdict
 enum-known-verdict c = search needs
 
 returns : tie.Need-returns
-returns c = refused-recorded (c .before .before .before .before .before .before .before .before .args .word .now) (memory (c .before .before .before .before .before .before .before .before .args .b-table .now) (c .before .before .before .before .before .before .before .before .args .a-table .now) (c .before .before .before .before .before .before .before .before .args .«record» .now)) (c .before .before .before .judge .result) _ (c .before .before .before .judge .ensures) (c .before .verdict .given .1)
+returns c = refused-recorded (c .before .before .before .before .before .before .before .before .args .word .now)
+    (memory (c .before .before .before .before .before .before .before .before .args .b-table .now) (c .before .before
+    .before .before .before .before .before .before .args .a-table .now) (c .before .before .before .before .before
+    .before .before .before .args .«record» .now)) (c .before .before .before .judge .result) _ (c .before .before
+    .before .judge .ensures) (c .before .verdict .given .1)
 
 enum-told : tie.Need-enum-told
 enum-told c = search needs
@@ -27,7 +31,14 @@ slice-aggregate-write-word-3 : tie.Need-slice-aggregate-write-word-3
 slice-aggregate-write-word-3 c = search needs
 
 write-word-requires : tie.Need-write-word-requires
-write-word-requires c κs = word-ready (c .before .before .before .before .before .before .before .before .before .before .before .before .before .args .word .now) (memory (c .before .before .before .before .before .before .before .before .before .before .before .before .before .args .b-table .now) (c .before .before .before .before .before .before .before .before .before .before .before .before .before .args .a-table .now) (c .before .before .before .before .before .before .before .before .before .before .before .before .before .args .«record» .now)) (c .before .before .before .before .before .before .before .before .judge .result) (c .before .before .before .before .before .before .before .before .judge .ensures) (c .before .before .before .before .before .before .enum-told .given .1)
+write-word-requires c κs = word-ready (c .before .before .before .before .before .before .before .before .before
+    .before .before .before .before .args .word .now) (memory (c .before .before .before .before .before .before
+    .before .before .before .before .before .before .before .args .b-table .now) (c .before .before .before .before
+    .before .before .before .before .before .before .before .before .before .args .a-table .now) (c .before .before
+    .before .before .before .before .before .before .before .before .before .before .before .args .«record» .now)) (c
+    .before .before .before .before .before .before .before .before .judge .result) (c .before .before .before .before
+    .before .before .before .before .judge .ensures) (c .before .before .before .before .before .before .enum-told
+    .given .1)
 
 same-length : tie.Need-same-length
 same-length c = search needs
@@ -39,7 +50,8 @@ same-length-3 : tie.Need-same-length-3
 same-length-3 c = search needs
 
 returns-2 : tie.Need-returns-2
-returns-2 c = let w = c .before .before .before .before .before .before .before .before .before .write-word .ensures in record { result = w .result; leaves = w .leaves }
+returns-2 c = let w = c .before .before .before .before .before .before .before .before .before .write-word .ensures in
+    record { result = w .result; leaves = w .leaves }
 
 pub word-to-record-spec : {M : Type 1} → statement M
 word-to-record-spec =

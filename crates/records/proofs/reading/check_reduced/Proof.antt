@@ -29,7 +29,8 @@ first-break-requires c κs = search needs
 returns : tie.Need-returns
 returns c =
     let done = c .before .before .before .before .before .fill-fields .ensures in
-    reduced-by (c .before .before .before .before .before .before .before .before .before .args .s .now) _ _ (c .first-break .result) (done .0) (done .1) (c .first-break .ensures)
+    reduced-by (c .before .before .before .before .before .before .before .before .before .args .s .now) _ _ (c
+    .first-break .result) (done .b-table) (done .a-table) (c .first-break .ensures)
 
 pub check-reduced-spec : {M : Type 1} → statement M
 check-reduced-spec =

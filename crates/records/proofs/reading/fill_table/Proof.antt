@@ -11,10 +11,23 @@ clear-requires : tie.Need-clear-requires
 clear-requires c κs = omega (arith, c .before .before .before .pre .1 .0)
 
 place-powers-requires : tie.Need-place-powers-requires
-place-powers-requires c κs = (c .before .before .before .before .before .before .before .pre .0, (omega (arith, c .before .before .before .before .before .before .before .pre .1 .0, c .before .before .before .clear .kept .0), c .before .before .before .before .before .before .before .pre .1 .1))
+place-powers-requires c κs = (
+  c .before .before .before .before .before .before .before .pre .0,
+  (
+    omega (
+      arith,
+      c
+          .before .before .before .before .before .before .before .pre .1 .0,
+      c .before .before .before .clear .kept .0,
+    ),
+    c
+        .before .before .before .before .before .before .before .pre .1 .1,
+  ),
+)
 
 same-length : tie.Need-same-length
-same-length c = c .before .before .place-powers .kept .1 .1 .1 .0 ∙ c .before .before .before .before .before .before .clear .kept .0
+same-length c = c .before .before .place-powers .kept .1 .1 .1 .0 ∙ c .before .before .before .before .before .before
+    .clear .kept .0
 
 returns : tie.Need-returns
 returns c =
@@ -22,7 +35,9 @@ returns c =
     let powers = entriesAt (args .s .now) (args .start) (args .count) in
     c .before .before .place-powers .ensures
     ∙ ap (placed powers) (c .before .before .before .before .before .before .clear .ensures)
-    ∙ placed-filled powers (args .table .now) (c .before .before .before .before .before .before .before .before .before .before .pre .1 .1) (c .before .before .before .before .before .before .before .before .before .before .pre .1 .0)
+    ∙ placed-filled powers (args .table .now) (c .before .before .before .before .before .before .before .before
+    .before .before .pre .1 .1) (c .before .before .before .before .before .before .before .before .before .before
+    .pre .1 .0)
 
 pub fill-table-spec : {M : Type 1} → statement M
 fill-table-spec = tie.close (tie.spec clear-requires place-powers-requires same-length returns)

@@ -53,7 +53,9 @@ cast-t20 : tie.Need-cast-t20 Inv-loop μ-loop
 cast-t20 c = omega arith
 
 returns : tie.Need-returns Inv-loop μ-loop
-returns c = λ f h. break-here (c .before .before .before .before .before .before .before .loop .inv .1) f h (omega (arith, c .before .before .before .before .before .before .loop-test .taken)) (sym (c .if1 .taken) ∙ c .before .breaks .ensures)
+returns c = λ f h. break-here (c .before .before .before .before .before .before .before .loop .inv .1) f h (omega
+    (arith, c .before .before .before .before .before .before .loop-test .taken)) (sym (c .if1 .taken) ∙ c .before
+    .breaks .ensures)
 
 add-i : tie.Need-add-i Inv-loop μ-loop
 add-i c = omega arith
@@ -62,7 +64,14 @@ loop-less : tie.Need-loop-less Inv-loop μ-loop
 loop-less c = omega arith
 
 loop-again : tie.Need-loop-again Inv-loop μ-loop
-loop-again c = (omega arith, record { goes-on = λ f h. break-later (c .before .before .before .before .before .before .before .loop .inv .1) f h (omega (arith, c .before .before .before .before .before .before .loop-test .taken)) (sym (c .if1 .left) ∙ c .before .breaks .ensures) })
+loop-again c = (
+  omega arith,
+  record {
+    goes-on = λ f h. break-later (c .before .before .before .before .before .before
+        .before .loop .inv .1) f h (omega (arith, c .before .before .before .before .before .before .loop-test .taken))
+        (sym (c .if1 .left) ∙ c .before .breaks .ensures);
+  },
+)
 
 returns-2 : tie.Need-returns-2 Inv-loop μ-loop
 returns-2 c = λ f h. break-nowhere (c .before .loop .inv .1) f h (omega arith)

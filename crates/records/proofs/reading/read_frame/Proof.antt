@@ -6,7 +6,8 @@ use Rattle.records.proofs.reading.read_frame.Statement.{statement}
 use Rattle.records.proofs.reading.read_frame.Tie as tie
 
 -- What is known once both lengths are read.
-heads : (c : tie.After-number-at2) → Heads (c .before .before .before .before .before .args .s .now) (c .before .before .number-at .result) (c .number-at2 .result)
+heads : (c : tie.After-number-at2) → Heads (c .before .before .before .before .before .args .s .now) (c .before .before
+    .number-at .result) (c .number-at2 .result)
 heads c = record {
   base = c .before .before .before .if1 .left;
   first = c .before .before .number-at .ensures .0;
@@ -24,7 +25,8 @@ add-if2 : tie.Need-add-if2
 add-if2 c = search needs
 
 returns-2 : tie.Need-returns-2
-returns-2 c = frame-cut (c .before .before .before .before .args .s .now) (c .before .number-at .result) (c .before .before .if1 .left) (c .before .number-at .ensures .0) (c .if2 .taken)
+returns-2 c = frame-cut (c .before .before .before .before .args .s .now) (c .before .number-at .result) (c .before
+    .before .if1 .left) (c .before .number-at .ensures .0) (c .if2 .taken)
 
 add-number-at : tie.Need-add-number-at
 add-number-at c = search needs
@@ -45,7 +47,8 @@ shared-slice-read-if4 : tie.Need-shared-slice-read-if4
 shared-slice-read-if4 c = search needs
 
 returns-4 : tie.Need-returns-4
-returns-4 c = frame-second-tag (heads (c .before .before .before .before)) (c .before .before .if3 .left) (c .if4 .taken)
+returns-4 c = frame-second-tag (heads (c .before .before .before .before)) (c .before .before .if3 .left) (c .if4
+    .taken)
 
 add-if5 : tie.Need-add-if5
 add-if5 c = search needs
@@ -54,16 +57,22 @@ add-if5-2 : tie.Need-add-if5-2
 add-if5-2 c = search needs
 
 returns-5 : tie.Need-returns-5
-returns-5 c = frame-end (heads (c .before .before .before .before .before)) (c .before .before .before .if3 .left) (c .before .if4 .left) (c .if5 .taken)
+returns-5 c = frame-end (heads (c .before .before .before .before .before)) (c .before .before .before .if3 .left) (c
+    .before .if4 .left) (c .if5 .taken)
 
 returns-6 : tie.Need-returns-6
-returns-6 c = frame-first-body (heads (c .before .before .before .before .before .before)) (c .before .before .before .before .if3 .left) (c .before .before .if4 .left) (c .before .if5 .left) (c .if6 .taken)
+returns-6 c = frame-first-body (heads (c .before .before .before .before .before .before)) (c .before .before .before
+    .before .if3 .left) (c .before .before .if4 .left) (c .before .if5 .left) (c .if6 .taken)
 
 returns-7 : tie.Need-returns-7
-returns-7 c = frame-second-body (heads (c .before .before .before .before .before .before .before)) (c .before .before .before .before .before .if3 .left) (c .before .before .before .if4 .left) (c .before .before .if5 .left) (c .before .if6 .left) (c .if7 .taken)
+returns-7 c = frame-second-body (heads (c .before .before .before .before .before .before .before)) (c .before .before
+    .before .before .before .if3 .left) (c .before .before .before .if4 .left) (c .before .before .if5 .left) (c
+    .before .if6 .left) (c .if7 .taken)
 
 returns-8 : tie.Need-returns-8
-returns-8 c = frame-exact (heads (c .before .before .before .before .before .before .before)) (c .before .before .before .before .before .if3 .left) (c .before .before .before .if4 .left) (c .before .before .if5 .left) (c .before .if6 .left) (c .if7 .left)
+returns-8 c = frame-exact (heads (c .before .before .before .before .before .before .before)) (c .before .before
+    .before .before .before .if3 .left) (c .before .before .before .if4 .left) (c .before .before .if5 .left) (c
+    .before .if6 .left) (c .if7 .left)
 
 pub read-frame-spec : {M : Type 1} → statement M
 read-frame-spec =

@@ -14,7 +14,8 @@ slice-aggregate-write-word-3 : tie.Need-slice-aggregate-write-word-3
 slice-aggregate-write-word-3 c = search needs
 
 write-word-requires : tie.Need-write-word-requires
-write-word-requires c κs = scratch-ready (c .before .before .before .before .before .before .before .before .before .before .before .before .before .before .pre .0)
+write-word-requires c κs = scratch-ready (c .before .before .before .before .before .before .before .before .before
+    .before .before .before .before .before .pre .0)
 
 slice-aggregate-write-word-4 : tie.Need-slice-aggregate-write-word-4
 slice-aggregate-write-word-4 c = search needs
@@ -26,10 +27,30 @@ slice-aggregate-write-word-6 : tie.Need-slice-aggregate-write-word-6
 slice-aggregate-write-word-6 c = search needs
 
 write-word-requires-2 : tie.Need-write-word-requires-2
-write-word-requires-2 c κs = scratch-ready-again (c .before .before .before .before .before .before .before .before .before .before .before .before .before .before .before .before .before .before .before .before .before .before .before .before .before .before .before .before .before .before .pre .1) (c .before .before .before .before .before .before .before .before .before .before .before .before .before .before .before .write-word .kept .1 .1 .1 .1 .0) (c .before .before .before .before .before .before .before .before .before .before .before .before .before .before .before .write-word .kept .1 .1 .1 .1 .1 .0) (c .before .before .before .before .before .before .before .before .before .before .before .before .before .before .before .write-word .kept .1 .1 .1 .1 .1 .1 .0)
+write-word-requires-2 c κs = scratch-ready-again (c .before .before .before .before .before .before .before .before
+    .before .before .before .before .before .before .before .before .before .before .before .before .before .before
+    .before .before .before .before .before .before .before .before .pre .1) (c .before .before .before .before .before
+    .before .before .before .before .before .before .before .before .before .before .write-word .kept .1 .1 .1 .1 .0)
+    (c .before .before .before .before .before .before .before .before .before .before .before .before .before .before
+    .before .write-word .kept .1 .1 .1 .1 .1 .0) (c .before .before .before .before .before .before .before .before
+    .before .before .before .before .before .before .before .write-word .kept .1 .1 .1 .1 .1 .1 .0)
 
 same-bytes-requires : tie.Need-same-bytes-requires
-same-bytes-requires c κs = (record-inside (c .before .before .before .before .before .before .before .before .before .before .before .before .before .before .before .before .before .before .before .before .before .before .before .before .before .before .before .before .before .before .before .before .before .before .before .before .before .before .before .before .before .before .pre .0) (c .before .before .before .before .before .before .before .before .before .before .before .before .before .before .before .before .before .before .before .before .before .before .before .before .before .before .before .write-word .ensures), record-inside (c .before .before .before .before .before .before .before .before .before .before .before .before .before .before .before .before .before .before .before .before .before .before .before .before .before .before .before .before .before .before .before .before .before .before .before .before .before .before .before .before .before .before .pre .1) (c .before .before .before .before .before .before .before .before .before .before .before .write-word2 .ensures))
+same-bytes-requires c κs = (
+  record-inside (c .before .before .before .before .before .before .before .before .before
+      .before .before .before .before .before .before .before .before .before .before .before .before .before .before
+      .before .before .before .before .before .before .before .before .before .before .before .before .before .before
+      .before .before .before .before .before .pre .0) (c .before .before .before .before .before .before
+      .before .before
+      .before .before .before .before .before .before .before .before .before .before .before .before .before .before
+      .before .before .before .before .before .write-word .ensures),
+  record-inside (c .before .before .before .before
+      .before .before .before .before .before .before .before .before .before .before .before .before .before .before
+      .before .before .before .before .before .before .before .before .before .before .before .before .before .before
+      .before .before .before .before .before .before .before .before .before .before .pre .1) (c .before
+      .before .before
+      .before .before .before .before .before .before .before .before .write-word2 .ensures),
+)
 
 same-length : tie.Need-same-length
 same-length c = search needs
@@ -50,7 +71,20 @@ same-length-6 : tie.Need-same-length-6
 same-length-6 c = search needs
 
 returns : tie.Need-returns
-returns c = record { first = c .before .before .before .before .before .before .before .before .before .before .before .before .before .before .before .before .before .before .before .before .before .before .before .before .before .before .before .before .write-word .result; second = c .before .before .before .before .before .before .before .before .before .before .before .before .write-word2 .result; written1 = c .before .before .before .before .before .before .before .before .before .before .before .before .before .before .before .before .before .before .before .before .before .before .before .before .before .before .before .before .write-word .ensures; written2 = c .before .before .before .before .before .before .before .before .before .before .before .before .write-word2 .ensures; says = c .same-bytes .ensures }
+returns c = record {
+  first = c .before .before .before .before .before .before .before .before .before .before .before
+      .before .before .before .before .before .before .before .before .before .before .before .before .before .before
+      .before .before .before .write-word .result;
+  second = c .before .before .before .before .before .before .before
+      .before .before .before .before .before .write-word2 .result;
+  written1 = c .before .before .before .before .before
+      .before .before .before .before .before .before .before .before .before .before .before .before .before .before
+      .before .before .before .before .before .before .before .before .before .write-word .ensures;
+  written2 = c .before
+      .before .before .before .before .before .before .before .before .before .before .before .write-word2 .ensures;
+  says
+      = c .same-bytes .ensures;
+}
 
 pub write-two-spec : {M : Type 1} → statement M
 write-two-spec =

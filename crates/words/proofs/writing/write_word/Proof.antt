@@ -13,16 +13,79 @@ levels-read-requires : tie.Need-levels-read-requires
 levels-read-requires c κs = search needs
 
 slice-reshare-prefix-write-record : tie.Need-slice-reshare-prefix-write-record
-slice-reshare-prefix-write-record c = omega (arith, word-fit (c .before .before .before .before .before .before .before .before .before .before .before .before .before .before .before .before .before .before .before .before .before .before .before .before .pre) .fit .b-long, same-letters (c .before .before .before .before .before .before .before .before .before .before .before .before .before .before .before .before .before .before .before .before .before .before .before .before .pre), engine-levels (c .before .before .before .before .before .before .before .before .before .before .before .before .before .before .before .before .before .before .before .before .before .before .before .before .pre) (c .before .before .before .before .before .before .before .before .before .before .before .fill-tables .ensures) .1, c .levels-read .ensures, c .before .before .before .before .before .before .before .before .before .before .before .fill-tables .kept .1 .0)
+slice-reshare-prefix-write-record c = omega (
+  arith,
+  word-fit (c .before .before .before .before .before .before .before
+      .before .before .before .before .before .before .before .before .before .before .before .before .before .before
+      .before .before .before .pre) .fit .b-long,
+  same-letters (c .before .before .before .before .before .before .before
+      .before .before .before .before .before .before .before .before .before .before .before .before .before .before
+      .before .before .before .pre),
+  engine-levels (c .before .before .before .before .before .before .before .before
+      .before .before .before .before .before .before .before .before .before .before .before .before .before .before
+      .before .before .pre) (c .before .before .before .before .before .before .before .before .before .before .before
+      .fill-tables .ensures) .1,
+  c .levels-read .ensures,
+  c .before .before .before .before .before .before .before
+      .before .before .before .before .fill-tables .kept .1 .0,
+)
 
 slice-aggregate-write-record : tie.Need-slice-aggregate-write-record
-slice-aggregate-write-record c = simp length-take (omega (arith, word-fit (c .before .before .before .before .before .before .before .before .before .before .before .before .before .before .before .before .before .before .before .before .before .before .before .before .before .pre) .fit .b-long, same-letters (c .before .before .before .before .before .before .before .before .before .before .before .before .before .before .before .before .before .before .before .before .before .before .before .before .before .pre), engine-levels (c .before .before .before .before .before .before .before .before .before .before .before .before .before .before .before .before .before .before .before .before .before .before .before .before .before .pre) (c .before .before .before .before .before .before .before .before .before .before .before .before .fill-tables .ensures) .1, c .before .levels-read .ensures, c .before .before .before .before .before .before .before .before .before .before .before .before .fill-tables .kept .1 .0))
+slice-aggregate-write-record c = simp length-take (omega (
+  arith,
+  word-fit (c .before .before .before .before .before
+      .before .before .before .before .before .before .before .before .before .before .before .before .before .before
+      .before .before .before .before .before .before .pre) .fit .b-long,
+  same-letters (c .before .before .before .before
+      .before .before .before .before .before .before .before .before .before .before .before .before .before .before
+      .before .before .before .before .before .before .before .pre),
+  engine-levels (c .before .before .before .before
+      .before .before .before .before .before .before .before .before .before .before .before .before .before .before
+      .before .before .before .before .before .before .before .pre) (c .before .before .before .before .before .before
+      .before .before .before .before .before .before .fill-tables .ensures) .1,
+  c .before .levels-read .ensures,
+  c
+      .before .before .before .before .before .before .before .before .before .before .before .before .fill-tables .kept
+      .1 .0,
+))
 
 slice-reshare-prefix-write-record-2 : tie.Need-slice-reshare-prefix-write-record-2
-slice-reshare-prefix-write-record-2 c = omega (arith, word-fit (c .before .before .before .before .before .before .before .before .before .before .before .before .before .before .before .before .before .before .before .before .before .before .before .before .before .pre) .fit .a-long, same-letters (c .before .before .before .before .before .before .before .before .before .before .before .before .before .before .before .before .before .before .before .before .before .before .before .before .before .pre), engine-levels (c .before .before .before .before .before .before .before .before .before .before .before .before .before .before .before .before .before .before .before .before .before .before .before .before .before .pre) (c .before .before .before .before .before .before .before .before .before .before .before .before .fill-tables .ensures) .1, c .before .levels-read .ensures, c .before .before .before .before .before .before .before .before .before .before .before .before .fill-tables .kept .1 .1 .0)
+slice-reshare-prefix-write-record-2 c = omega (
+  arith,
+  word-fit (c .before .before .before .before .before .before
+      .before .before .before .before .before .before .before .before .before .before .before .before .before .before
+      .before .before .before .before .before .pre) .fit .a-long,
+  same-letters (c .before .before .before .before .before
+      .before .before .before .before .before .before .before .before .before .before .before .before .before .before
+      .before .before .before .before .before .before .pre),
+  engine-levels (c .before .before .before .before .before
+      .before .before .before .before .before .before .before .before .before .before .before .before .before .before
+      .before .before .before .before .before .before .pre) (c .before .before .before .before .before .before .before
+      .before .before .before .before .before .fill-tables .ensures) .1,
+  c .before .levels-read .ensures,
+  c .before
+      .before .before .before .before .before .before .before .before .before .before .before .fill-tables
+      .kept .1 .1 .0,
+)
 
 slice-aggregate-write-record-2 : tie.Need-slice-aggregate-write-record-2
-slice-aggregate-write-record-2 c = simp length-take (omega (arith, word-fit (c .before .before .before .before .before .before .before .before .before .before .before .before .before .before .before .before .before .before .before .before .before .before .before .before .before .before .pre) .fit .a-long, same-letters (c .before .before .before .before .before .before .before .before .before .before .before .before .before .before .before .before .before .before .before .before .before .before .before .before .before .before .pre), engine-levels (c .before .before .before .before .before .before .before .before .before .before .before .before .before .before .before .before .before .before .before .before .before .before .before .before .before .before .pre) (c .before .before .before .before .before .before .before .before .before .before .before .before .before .fill-tables .ensures) .1, c .before .before .levels-read .ensures, c .before .before .before .before .before .before .before .before .before .before .before .before .before .fill-tables .kept .1 .1 .0))
+slice-aggregate-write-record-2 c = simp length-take (omega (
+  arith,
+  word-fit (c .before .before .before .before .before
+      .before .before .before .before .before .before .before .before .before .before .before .before .before .before
+      .before .before .before .before .before .before .before .pre) .fit .a-long,
+  same-letters (c .before .before .before
+      .before .before .before .before .before .before .before .before .before .before .before .before .before .before
+      .before .before .before .before .before .before .before .before .before .pre),
+  engine-levels (c .before .before
+      .before .before .before .before .before .before .before .before .before .before .before .before .before .before
+      .before .before .before .before .before .before .before .before .before .before .pre) (c .before .before .before
+      .before .before .before .before .before .before .before .before .before .before .fill-tables .ensures) .1,
+  c
+      .before .before .levels-read .ensures,
+  c .before .before .before .before .before .before .before .before .before
+      .before .before .before .before .fill-tables .kept .1 .1 .0,
+))
 
 write-record-requires : tie.Need-write-record-requires
 write-record-requires c κs = search needs
@@ -50,8 +113,11 @@ same-length-6 c = search needs
 
 returns : tie.Need-returns
 returns c =
-    let ready = c .before .before .before .before .before .before .before .before .before .before .before .before .before .before .before .before .before .before .before .before .before .before .before .before .before .before .before .before .before .before .before .pre in
-    let filled = c .before .before .before .before .before .before .before .before .before .before .before .before .before .before .before .before .before .before .fill-tables .ensures in
+    let ready = c .before .before .before .before .before .before .before .before .before .before .before .before
+    .before .before .before .before .before .before .before .before .before .before .before .before .before .before
+    .before .before .before .before .before .pre in
+    let filled = c .before .before .before .before .before .before .before .before .before .before .before .before
+    .before .before .before .before .before .before .fill-tables .ensures in
     let read = engine-levels ready filled in
     let count = c .before .before .before .before .before .before .before .levels-read .ensures in
     word-written
