@@ -2,7 +2,7 @@
 -- those of the whole. Assumes nothing.
 use mathlib.Core.Path.{_≡_, refl, sym, _∙_, subst, ap}
 use mathlib.Core.List.{List}
-use Prim.Native.Nat.{ℕ, _+_, _≤_, _<_}
+use Prim.Native.Nat.{ℕ, _+_, _-_, _≤_, _<_}
 use native.Mathlib.Omega.{arith}
 use lib.ListN.{getD, length}
 use Rattle.group.specs.Limits.{limit}
@@ -10,35 +10,14 @@ use Rattle.forest.specs.Filling.{cells, room}
 use Rattle.forest.specs.Forest.{Tree, leaf, caret, putTree, leftEdges, leafExponent, treesBehind}
 use Rattle.forest.specs.Forest.{leaves, forestLeaves}
 use Rattle.forest.specs.Cells.{Stands, StackStands, Pushed}
-use Rattle.forest.specs.Leaves.{Standing, LeafRead}
+use Rattle.forest.specs.Leaves.{Below, Walked, Walking, StemPassed, Standing, LeafRead}
 use Rattle.forest.proofs.Irreducible.{put-leaves}
 use Rattle.forest.proofs.Counting.{leaves-some}
-use Rattle.forest.proofs.Stored.{stands-below, stands-more, stack-height}
+use Rattle.forest.proofs.Stored.{stands-below, stands-more, stack-height, push-none}
 
--- The tree u, in front of the trees us, is left of t in front of ts, `edges` left edges down.
-pub record Below (t : Tree) (ts : List Tree) (u : Tree) (us : List Tree) (edges : ℕ) : Type 0 where
-  pub to-edges : edges + leftEdges u ≡ leftEdges t
-  pub to-exponent : leafExponent u ≡ leafExponent t
-  pub to-behind : treesBehind u us ≡ treesBehind t ts
-  pub to-leaves : leaves u + forestLeaves us ≤ leaves t + forestLeaves ts
-
-pub record Walked (lefts rights : List ℕ) (t : Tree) (ts : List Tree) (stack : List ℕ) (code edges height : ℕ)
-    : Type 0 where
-  pub tree : Tree
-  pub behind : List Tree
-  pub stands : Stands lefts rights cells tree code
-  pub stack-stands : StackStands lefts rights cells behind stack height
-  pub below : Below t ts tree behind edges
-
-pub record Walking (lefts rights stack₀ : List ℕ) (whole low : ℕ) (stack : List ℕ) (code edges height : ℕ)
-    : Type 0 where
-  pub same : length stack ≡ length stack₀
-  pub falls : edges + code ≤ whole
-  pub walked : (t : Tree) (ts : List Tree) → Stands lefts rights cells t whole
-      → StackStands lefts rights cells ts stack₀ low → Walked lefts rights t ts stack code edges height
-
-pub walk-starts : (lefts rights stack : List ℕ) (whole low : ℕ) → Walking lefts rights stack whole low stack whole 0 low
-walk-starts lefts rights stack whole low = record {
+-- At the start nothing is passed.
+pub walk-starts : (lefts rights : List ℕ) (whole height : ℕ) → StemPassed lefts rights whole height whole
+walk-starts lefts rights whole height stack = record {
   same = refl;
   falls = omega arith;
   walked = λ t ts p s. record {
@@ -49,6 +28,11 @@ walk-starts lefts rights stack whole low = record {
     below = record { to-edges = omega arith; to-exponent = refl; to-behind = refl; to-leaves = omega arith };
   };
 }
+
+pub standing-below : {lefts rights stack : List ℕ} {code height : ℕ} → Standing lefts rights stack code height
+    → code < cells
+standing-below {lefts} {rights} {stack} {code} s =
+    stands-below lefts rights cells (s .tree) code (omega arith) (s .stands)
 
 -- What a turn asks: the code is a cell, the stack has room, and the next code is lower.
 pub record Turn (lefts : List ℕ) (code height : ℕ) : Type 0 where
@@ -128,3 +112,16 @@ module _ {lefts rights stack₀ : List ℕ} {whole low : ℕ} {stack : List ℕ}
   walk-ends p t ts g s =
       let v = w .walked t ts g s in
       at-leaf t ts (v .tree) (v .behind) p (v .stands) (v .stack-stands) (v .below)
+
+-- Down one cell of a stem, with no tree behind it.
+pub walk-stem : {lefts rights : List ℕ} {whole height code : ℕ} → StemPassed lefts rights whole height code
+    → (k : ℕ) → k ≡ code → limit < code → height ≡ 0 → getD rights k 0 ≡ 0 → getD lefts k 0 ≡ code - 1
+    → StemPassed lefts rights whole height (code - 1)
+walk-stem {lefts} {rights} {whole} {height} {code} w k e p empty zero next stack =
+    let g : getD lefts k 0 ≡ getD lefts code 0 = ap (λ (j : ℕ). getD lefts j 0) e in
+    let more : (whole - code) + 1 ≡ whole - (code - 1) = omega (arith, w stack .falls) in
+    let pushed = push-none stack height (getD rights k 0) empty zero in
+    subst (λ (j : ℕ). Walking lefts rights stack whole height stack j (whole - (code - 1)) height) next
+    (subst (λ (j : ℕ). Walking lefts rights stack whole height stack (getD lefts k 0) j height) more
+    (walk-more (w stack) k e p (omega arith) refl
+    (subst (Pushed stack height (getD rights k 0) stack) (sym empty) pushed)))

@@ -1,7 +1,7 @@
 -- What the functions of `leaves` promise: the leaves of a stored row are written into the tables. Assumes nothing.
 use mathlib.Core.Path.{_≡_}
 use mathlib.Core.List.{List}
-use Prim.Native.Nat.{ℕ, _+_, _≤_}
+use Prim.Native.Nat.{ℕ, _+_, _-_, _≤_}
 use lib.ListN.{length}
 use Rattle.lists.specs.Tables.{filled}
 use Rattle.group.specs.Forms.{Side, bSide, aSide, exponent, levels}
@@ -34,6 +34,35 @@ LeafRead lefts rights stack code height stack′ edges exponent height′ =
     → (edges ≡ leftEdges t)
     × (exponent ≡ leafExponent t)
     × StackStands lefts rights cells (treesBehind t ts) stack′ height′
+
+-- The tree u, in front of the trees us, is left of t in front of ts, `edges` left edges down.
+pub record Below (t : Tree) (ts : List Tree) (u : Tree) (us : List Tree) (edges : ℕ) : Type 0 where
+  pub to-edges : edges + leftEdges u ≡ leftEdges t
+  pub to-exponent : leafExponent u ≡ leafExponent t
+  pub to-behind : treesBehind u us ≡ treesBehind t ts
+  pub to-leaves : leaves u + forestLeaves us ≤ leaves t + forestLeaves ts
+
+-- The code stands for such a tree, and the stack for the trees behind it.
+pub record Walked (lefts rights : List ℕ) (t : Tree) (ts : List Tree) (stack : List ℕ) (code edges height : ℕ)
+    : Type 0 where
+  pub tree : Tree
+  pub behind : List Tree
+  pub stands : Stands lefts rights cells tree code
+  pub stack-stands : StackStands lefts rights cells behind stack height
+  pub below : Below t ts tree behind edges
+
+-- So it is for each tree that `whole` stands for; the code falls as the edges grow.
+pub record Walking (lefts rights stack₀ : List ℕ) (whole low : ℕ) (stack : List ℕ) (code edges height : ℕ)
+    : Type 0 where
+  pub same : length stack ≡ length stack₀
+  pub falls : edges + code ≤ whole
+  pub walked : (t : Tree) (ts : List Tree) → Stands lefts rights cells t whole
+      → StackStands lefts rights cells ts stack₀ low → Walked lefts rights t ts stack code edges height
+
+-- The same of a code as many left edges down as it is lower, with the stack as it was.
+abbrev pub StemPassed : (lefts rights : List ℕ) (whole height code : ℕ) → Type 0
+StemPassed lefts rights whole height code =
+    (stack : List ℕ) → Walking lefts rights stack whole height stack code (whole - code) height
 
 -- The scratch, with the row of the word in it.
 pub record Ended (word lefts rights stack : List ℕ) (s : State) : Type 0 where

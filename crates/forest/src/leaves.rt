@@ -1,8 +1,8 @@
 // The leaves of a row, read off into two tables: the exponents of the word's reduced form.
-ghost use Prim.Native.Nat.{_≤_};
+ghost use Prim.Native.Nat.{_≤_, _<_};
 ghost use lib.ListN.{length};
 ghost use Rattle.forest.specs.Moves.{Scratch};
-ghost use Rattle.forest.specs.Leaves.{Standing, LeafRead, Piled, Ended, LongTables};
+ghost use Rattle.forest.specs.Leaves.{Standing, LeafRead, StemPassed, Piled, Ended, LongTables};
 ghost use Rattle.forest.specs.Leaves.{LevelsRead, ZerosPut, Tabled};
 use crate::cells::LAST_LEAF;
 use crate::cells::pop;
@@ -18,14 +18,38 @@ pub struct Leaf {
     pub height: usize,
 }
 
+// What is left of a tree below its stem: cells that each have the cell before them on the left and a leaf of exponent
+// 0 on the right. With no tree behind them these leaves are not stored. No turn of the loop waits for a load before it.
+fn below_stem(lefts: &[u16], rights: &[u16], tree: u16, height: usize) -> u16
+    requires { ⌜ (tree < length (now lefts)) × (tree < length (now rights)) ⌝ }
+    ensures { λ r. ⌜ StemPassed (now (lefts .entry)) (now (rights .entry)) tree height r ⌝ }
+{
+    let mut code = tree;
+    if height != 0 {
+        return code;
+    }
+    while LAST_LEAF < code {
+        let next = code - 1;
+        let k = wide(code);
+        if rights[k] != 0 {
+            return code;
+        }
+        if lefts[k] != next {
+            return code;
+        }
+        code = next;
+    }
+    code
+}
+
 // The first leaf of a tree; the trees behind it go onto the stack.
 fn descend(lefts: &[u16], rights: &[u16], stack: &mut [u16], tree: u16, low: usize) -> Leaf
     requires { ⌜ Standing (now lefts) (now rights) (now stack) tree low ⌝ }
     ensures { λ r. ⌜ LeafRead (now (lefts .entry)) (now (rights .entry)) (now (stack .entry)) tree low
         (now (stack .exit)) (r .edges) (r .exponent) (r .height) ⌝ }
 {
-    let mut code = tree;
-    let mut edges: u16 = 0;
+    let mut code = below_stem(lefts, rights, tree, low);
+    let mut edges = tree - code;
     let mut height = low;
     while LAST_LEAF < code {
         let k = wide(code);

@@ -25,7 +25,7 @@ use Rattle.records.proofs.Lengths.{encode-size}
 use Rattle.forest.specs.Filling.{cells, room, tableAfter}
 use Rattle.words.specs.Recording.{recordOfWord, recorded, bufferAfter, Memory, judgedWith, Left}
 use Rattle.words.specs.Recording.{Recorded, Accepts, Ready, WordWritten}
-use Rattle.words.specs.Comparing.{Decision, same, different, refusedWord, decided, decisionOf, sameBytes, beside}
+use Rattle.words.specs.Comparing.{decided, decisionOf, sameBytes, verdictBy, beside}
 use Rattle.words.specs.Comparing.{Compared, SameBytes, TwoWritten}
 use Rattle.words.specs.declared.Comparison.{Comparison}
 use Rattle.words.specs.declared.Comparison.the-variants.{Same, Different, First, Second}
@@ -145,12 +145,12 @@ module _ (word1 : List ℕ) (m1 m1′ : Memory) (word2 : List ℕ) (m2 m2′ : M
           let eq = same-bytes (recordOfWord (f1 .letters)) (recordOfWord (f2 .letters)) k in
           sym e ∙ w .says .if-same (one ∙ eq ∙ sym two)
 
-  pub both-written : (c : Comparison) → decisionOf c ≡ cond r same different
+  pub both-written : (c : Comparison) → decisionOf c ≡ verdictBy r
       → Compared word1 m1 m1′ word2 m2 m2′ c
   both-written c d = record {
     result =
         d
-        ∙ ap (λ (p : Bool). cond p same different) agree
+        ∙ ap verdictBy agree
         ∙ sym (ap₂ decided (f1 .judged-so) (f2 .judged-so));
     leaves1 = own m1 m1′ word1 (w .written1 .leaves) (sym (ap (beside (judgedWith word1 m1)) (f2 .judged-so)));
     leaves2 = own m2 m2′ word2 (w .written2 .leaves) (sym (ap (beside (judgedWith word2 m2)) (f1 .judged-so)));

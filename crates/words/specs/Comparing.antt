@@ -34,11 +34,15 @@ sameBytes [] (y ∷ t) = false
 sameBytes (x ∷ s) [] = false
 sameBytes (x ∷ s) (y ∷ t) = cond (eqb x y) (sameBytes s t) false
 
+-- The verdict of two accepted words.
+abbrev pub verdictBy : Bool → Decision
+verdictBy equal = cond equal same different
+
 -- The first word's refusal, then the second's, then the verdict by the records.
 abbrev pub decided : Outcome Word → Outcome Word → Decision
 decided (refused number place) second = refusedWord 0 number place
 decided (accepted u) (refused number place) = refusedWord 1 number place
-decided (accepted u) (accepted v) = cond (sameBytes (recordOfWord u) (recordOfWord v)) same different
+decided (accepted u) (accepted v) = verdictBy (sameBytes (recordOfWord u) (recordOfWord v))
 
 -- A word's own outcome, where the other word is accepted too; else a refusal.
 abbrev pub beside : Outcome Word → Outcome Word → Outcome Word

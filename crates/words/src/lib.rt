@@ -2,7 +2,7 @@
 ghost use mathlib.Core.Path.{_≡_};
 ghost use Rattle.refusals.specs.Outcomes.{verdictOf, checked};
 ghost use Rattle.words.specs.Recording.{judgedRecord, memory, Recorded};
-ghost use Rattle.words.specs.Comparing.{Compared};
+ghost use Rattle.words.specs.Comparing.{decisionOf, verdictBy, Compared};
 use refusals::Refusal;
 use refusals::Verdict;
 use refusals::Written;
@@ -60,6 +60,16 @@ pub fn word_to_record(
     ))
 }
 
+// The verdict of two accepted words.
+fn verdict(same: bool) -> Comparison
+    ensures { λ r. ⌜ decisionOf r ≡ verdictBy same ⌝ }
+{
+    if same {
+        return Comparison::Same;
+    }
+    Comparison::Different
+}
+
 // Two words: same or different by their records. Both are judged before anything is written, the first word first.
 pub fn same_element(
     word1: &[u8],
@@ -86,7 +96,7 @@ pub fn same_element(
     if let Verdict::Refused(r) = second {
         return Comparison::Second(r);
     }
-    if writing::write_two(
+    let same = writing::write_two(
         word1,
         b_table1,
         a_table1,
@@ -95,8 +105,6 @@ pub fn same_element(
         b_table2,
         a_table2,
         record2,
-    ) {
-        return Comparison::Same;
-    }
-    Comparison::Different
+    );
+    verdict(same)
 }

@@ -1,9 +1,5 @@
 -- `same_element` meets its contract: both words are judged, and then written. Assumes nothing.
-use mathlib.Core.Path.{sym, ap}
-use mathlib.Core.Bool.{Bool, cond}
 use Rattle.words.specs.Recording.{memory}
-use Rattle.words.specs.Comparing.{same, different}
-use Rattle.words.specs.declared.Comparison.the-variants.{Same, Different}
 use Rattle.words.proofs.Compared.{verdict-accepts, first-refused, second-refused, both-written}
 use borrow.Author.Needs.{needs}
 use Rattle.words.proofs.same_element.Statement.{statement}
@@ -85,6 +81,9 @@ write-two-requires c κs = (
       .before .before .before .before .before .enum-told2 .given .1),
 )
 
+verdict-requires : tie.Need-verdict-requires
+verdict-requires c κs = search needs
+
 same-length : tie.Need-same-length
 same-length c = search needs
 
@@ -157,85 +156,10 @@ returns-3 c = both-written (c .before .before .before .before .before .before .b
     .before .before .before .before .before .judge2 .result) (c .before .before .before .before .before .before .before
     .before .before .before .before .before .before .before .before .before .before .before .before .before .before
     .before .judge2 .ensures) (c .before .before .before .before .before .before .before .before .before .before
-    .before .before .before .before .before .before .before .before .before .before .enum-told2 .given .1)) _ (c
-    .before .before .before .before .before .before .before .before .before .before .before .before .before .write-two
-    .ensures) Same (sym (ap (λ (p : Bool). cond p same different) (c .if1 .taken)))
-
-same-length-7 : tie.Need-same-length-7
-same-length-7 c = search needs
-
-same-length-8 : tie.Need-same-length-8
-same-length-8 c = search needs
-
-same-length-9 : tie.Need-same-length-9
-same-length-9 c = search needs
-
-same-length-10 : tie.Need-same-length-10
-same-length-10 c = search needs
-
-same-length-11 : tie.Need-same-length-11
-same-length-11 c = search needs
-
-same-length-12 : tie.Need-same-length-12
-same-length-12 c = search needs
-
-returns-4 : tie.Need-returns-4
-returns-4 c = both-written (c .before .before .before .before .before .before .before .before .before .before .before
-    .before .before .before .before .before .before .before .before .before .before .before .before .before .before
-    .before .before .before .before .before .before .before .before .before .args .word1 .now) (memory (c .before
-    .before .before .before .before .before .before .before .before .before .before .before .before .before .before
-    .before .before .before .before .before .before .before .before .before .before .before .before .before .before
-    .before .before .before .before .before .args .b-table1 .now) (c .before .before .before .before .before .before
-    .before .before .before .before .before .before .before .before .before .before .before .before .before .before
-    .before .before .before .before .before .before .before .before .before .before .before .before .before .before
-    .args .a-table1 .now) (c .before .before .before .before .before .before .before .before .before .before .before
-    .before .before .before .before .before .before .before .before .before .before .before .before .before .before
-    .before .before .before .before .before .before .before .before .before .args .record1 .now)) _ (c .before .before
-    .before .before .before .before .before .before .before .before .before .before .before .before .before .before
-    .before .before .before .before .before .before .before .before .before .before .before .before .before .before
-    .before .before .before .before .args .word2 .now) (memory (c .before .before .before .before .before .before
-    .before .before .before .before .before .before .before .before .before .before .before .before .before .before
-    .before .before .before .before .before .before .before .before .before .before .before .before .before .before
-    .args .b-table2 .now) (c .before .before .before .before .before .before .before .before .before .before .before
-    .before .before .before .before .before .before .before .before .before .before .before .before .before .before
-    .before .before .before .before .before .before .before .before .before .args .a-table2 .now) (c .before .before
-    .before .before .before .before .before .before .before .before .before .before .before .before .before .before
-    .before .before .before .before .before .before .before .before .before .before .before .before .before .before
-    .before .before .before .before .args .record2 .now)) _ (verdict-accepts (c .before .before .before .before .before
-    .before .before .before .before .before .before .before .before .before .before .before .before .before .before
-    .before .before .before .before .before .before .before .before .before .before .before .before .before .before
-    .before .args .word1 .now) (memory (c .before .before .before .before .before .before .before .before .before
-    .before .before .before .before .before .before .before .before .before .before .before .before .before .before
-    .before .before .before .before .before .before .before .before .before .before .before .args .b-table1 .now) (c
-    .before .before .before .before .before .before .before .before .before .before .before .before .before .before
-    .before .before .before .before .before .before .before .before .before .before .before .before .before .before
-    .before .before .before .before .before .before .args .a-table1 .now) (c .before .before .before .before .before
-    .before .before .before .before .before .before .before .before .before .before .before .before .before .before
-    .before .before .before .before .before .before .before .before .before .before .before .before .before .before
-    .before .args .record1 .now)) (c .before .before .before .before .before .before .before .before .before .before
-    .before .before .before .before .before .before .before .before .before .before .before .before .before .before
-    .before .judge .result) (c .before .before .before .before .before .before .before .before .before .before .before
-    .before .before .before .before .before .before .before .before .before .before .before .before .before .before
-    .judge .ensures) (c .before .before .before .before .before .before .before .before .before .before .before .before
-    .before .before .before .before .before .before .before .before .before .before .before .enum-told .given .1))
-    (verdict-accepts (c .before .before .before .before .before .before .before .before .before .before .before .before
-    .before .before .before .before .before .before .before .before .before .before .before .before .before .before
-    .before .before .before .before .before .before .before .before .args .word2 .now) (memory (c .before .before
-    .before .before .before .before .before .before .before .before .before .before .before .before .before .before
-    .before .before .before .before .before .before .before .before .before .before .before .before .before .before
-    .before .before .before .before .args .b-table2 .now) (c .before .before .before .before .before .before .before
-    .before .before .before .before .before .before .before .before .before .before .before .before .before .before
-    .before .before .before .before .before .before .before .before .before .before .before .before .before .args
-    .a-table2 .now) (c .before .before .before .before .before .before .before .before .before .before .before .before
-    .before .before .before .before .before .before .before .before .before .before .before .before .before .before
-    .before .before .before .before .before .before .before .before .args .record2 .now)) (c .before .before .before
-    .before .before .before .before .before .before .before .before .before .before .before .before .before .before
-    .before .before .before .before .before .judge2 .result) (c .before .before .before .before .before .before .before
-    .before .before .before .before .before .before .before .before .before .before .before .before .before .before
-    .before .judge2 .ensures) (c .before .before .before .before .before .before .before .before .before .before
-    .before .before .before .before .before .before .before .before .before .before .enum-told2 .given .1)) _ (c
-    .before .before .before .before .before .before .before .before .before .before .before .before .before .write-two
-    .ensures) Different (sym (ap (λ (p : Bool). cond p same different) (c .if1 .left)))
+    .before .before .before .before .before .before .before .before .before .before .enum-told2 .given .1)) (c .before
+    .before .before .before .before .before .before .before .before .before .before .before .before .write-two .result)
+    (c .before .before .before .before .before .before .before .before .before .before .before .before .before
+    .write-two .ensures) (c .verdict .result) (c .verdict .ensures)
 
 pub same-element-spec : {M : Type 1} → statement M
 same-element-spec =
@@ -250,17 +174,11 @@ same-element-spec =
     returns-2
     enum-told-2
     write-two-requires
+    verdict-requires
     same-length
     same-length-2
     same-length-3
     same-length-4
     same-length-5
     same-length-6
-    returns-3
-    same-length-7
-    same-length-8
-    same-length-9
-    same-length-10
-    same-length-11
-    same-length-12
-    returns-4)
+    returns-3)

@@ -1,10 +1,12 @@
 -- `leaves::descend` meets its contract: the walk of `Descent`; the code falls in each turn.
 -- Assumes nothing.
 use mathlib.Core.Path.{_≡_, ap}
+use mathlib.Core.List.{[]}
 use Prim.Native.Nat.{ℕ}
 use native.Mathlib.Omega.{arith}
 use lib.ListN.{getD}
-use Rattle.forest.proofs.Descent.{Walking, Turn, walk-starts, walk-turn, walk-more, walk-ends}
+use Rattle.forest.specs.Leaves.{Walking}
+use Rattle.forest.proofs.Descent.{Turn, standing-below, walk-turn, walk-more, walk-ends}
 use Rattle.forest.proofs.leaves.descend.Statement.{statement}
 use Rattle.forest.proofs.leaves.descend.Tie as tie
 
@@ -17,14 +19,19 @@ abbrev μ-loop : tie.MeasureT-loop
 
 -- What a turn may use, at its start.
 turn : (c : tie.In-loop Inv-loop μ-loop)
-    → Turn (c .before .before .before .before .before .args .lefts .now) (c .before .loop .code)
+    → Turn (c .before .before .before .before .before .before .args .lefts .now) (c .before .loop .code)
     (c .before .loop .height)
-turn c = walk-turn (c .before .loop .inv) (c .before .before .before .before .before .pre) (c .loop-test .taken)
+turn c =
+    walk-turn (c .before .loop .inv) (c .before .before .before .before .before .before .pre) (c .loop-test .taken)
+
+below-stem-requires : tie.Need-below-stem-requires Inv-loop μ-loop
+below-stem-requires c κs = omega (arith, standing-below (c .before .before .before .pre))
+
+sub-edges : tie.Need-sub-edges Inv-loop μ-loop
+sub-edges c = omega (arith, c .below-stem .ensures [] .falls)
 
 loop-holds : tie.Need-loop-holds Inv-loop μ-loop
-loop-holds c =
-    let g = c .before .before .before .args in
-    walk-starts (g .lefts .now) (g .rights .now) (g .stack .now) (g .tree) (g .low)
+loop-holds c = c .below-stem .ensures (c .before .before .before .before .args .stack .now)
 
 wide-requires : tie.Need-wide-requires Inv-loop μ-loop
 wide-requires c κs = tt
@@ -50,7 +57,7 @@ add-edges c = omega (arith, turn (c .before .before .before .before .before .bef
 loop-less : tie.Need-loop-less Inv-loop μ-loop
 loop-less c =
     let at = c .before .before .before .before .before .before .before in
-    let lefts = at .before .before .before .before .before .args .lefts .now in
+    let lefts = at .before .before .before .before .before .before .args .lefts .now in
     let k = c .before .before .before .before .before .before .wide in
     let same : getD lefts (k .result) 0 ≡ getD lefts (at .before .loop .code) 0 =
     ap (λ (j : ℕ). getD lefts j 0) (k .ensures) in
@@ -76,6 +83,8 @@ descend-spec =
     (tie.spec
     Inv-loop
     μ-loop
+    below-stem-requires
+    sub-edges
     loop-holds
     wide-requires
     mul-push
