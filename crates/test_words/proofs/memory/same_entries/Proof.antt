@@ -1,0 +1,24 @@
+-- `same_entries` is safe. Assumes nothing.
+use Prim.Native.Nat.{_-_}
+use lib.ListN.{length}
+use native.Mathlib.Omega.{arith}
+use Rattle.test_words.proofs.memory.same_entries.Statement.{statement}
+use Rattle.test_words.proofs.memory.same_entries.Tie as tie
+
+pub same-entries-spec : {M : Type 1} → statement M
+same-entries-spec =
+    tie.close
+    (tie.spec
+    (λ x y i₀ i. Unit {0})
+    (λ x y i₀ i. length x - i)
+    (λ c. tt)
+    (λ c. tt)
+    (λ c. omega arith)
+    (λ c. omega arith)
+    (λ c. omega arith)
+    (λ c. omega arith)
+    (λ c. tt)
+    (λ c. omega arith)
+    (λ c. omega arith)
+    (λ c. tt)
+    (λ c. tt))
