@@ -52,17 +52,6 @@ pub fn lent(size: usize, most: usize) -> usize
     if size < most { size } else { most }
 }
 
-// Sizes, or the most there is.
-pub fn lent_sizes(s: Sizes) -> Sizes
-    ensures { λ r. ⌜ (r .b ≤ 4200) × (r .a ≤ 4200) × (r .record ≤ 16800) ⌝ }
-{
-    Sizes {
-        b: lent(s.b, TABLE),
-        a: lent(s.a, TABLE),
-        record: lent(s.record, BUFFER),
-    }
-}
-
 // The entries of a table for so many letters, or the most there are.
 pub fn entries(letters: usize, table: &[u16]) -> usize
     ensures { λ r. ⌜ r ≤ length (now (table .entry)) ⌝ }

@@ -1,5 +1,5 @@
-// The text of an answer, put together in a buffer. Each function answers the place behind what it put; what does not fit
-// is left out.
+// The text of an answer, put together in a buffer. Each function answers the place behind what it put; what does not
+// fit is left out.
 
 // One byte.
 fn put_byte(out: &mut [u8], at: usize, x: u8) -> usize {
