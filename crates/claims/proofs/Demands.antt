@@ -3,30 +3,25 @@ use mathlib.Core.Path.{_≡_, refl, sym, ap, ap₂, _∙_}
 use mathlib.Core.Bool.{Bool, true, false, cond}
 use mathlib.Core.List.{List}
 use mathlib.Core.Logic.{_↔_}
-use Prim.Native.Nat.{ℕ, _+_, _<_, _≤_}
+use Prim.Native.Nat.{ℕ}
 use native.Mathlib.Omega.{arith}
-use lib.ListN.{length, take, drop}
+use lib.ListN.{length}
 use Rattle.group.specs.Letters.{Word}
-use Rattle.group.specs.Bytes.{bytesOf}
 use Rattle.group.specs.Chains.{Joined}
-use Rattle.group.proofs.Reduced.{form-reduced}
-use Rattle.group.proofs.Theorems.{form-map}
-use Rattle.refusals.specs.Outcomes.{Outcome, accepted, refused, checked, verdictOf, writtenOf}
-use Rattle.refusals.specs.declared.Verdict.{Verdict}
+use Rattle.refusals.specs.Outcomes.{Outcome, accepted, refused, checked, writtenOf}
 use Rattle.refusals.specs.declared.Written.{Written}
 use Rattle.refusals.proofs.Outcomes.{accepted-refused, checked-refused}
 use Rattle.records.specs.Reading.{decode}
-use Rattle.records.specs.Faults.{Bytes}
-use Rattle.words.specs.Recording.{Memory, judgedWith, recordOfWord, recorded, Left, Recorded}
+use Rattle.words.specs.Recording.{Memory, judgedWith, recordOfWord, recorded, Recorded}
 use Rattle.words.specs.Comparing.{same, different, refusedWord, decided, decisionOf, sameBytes, beside, Compared}
 use Rattle.words.specs.declared.Comparison.{Comparison}
 use Rattle.words.proofs.Compared.{same-bytes, bytes-same}
 use Rattle.claims.specs.Refusals.{WordRefusal, long, unlettered, shortTable, shortBuffer, NoWordRefusal}
-use Rattle.claims.specs.Demands.{RefusalsOfWords, RefusalsOfRecords, RefusalsOfTwoWords, KeptMap, RecordKeepsMap}
+use Rattle.claims.specs.Demands.{RefusalsOfWords, RefusalsOfRecords, RefusalsOfTwoWords, RecordKeepsMap}
 use Rattle.claims.specs.Demands.{EqualRecordsAreJoined, SameIsJoined}
 use Rattle.claims.proofs.Refusals.{Judged, refuses, accepts, judge-word, judged↔refusal, judged-accepted}
 use Rattle.claims.proofs.Refusals.{decoded↔refusal}
-use Rattle.claims.proofs.Records.{left-refused, records↔joined, CallOf, call-of, call-keeps-map, call-front}
+use Rattle.claims.proofs.Records.{left-refused, records↔joined, call-of, call-keeps-map, call-front}
 
 -- What a value is put for keeps its refusal.
 recorded-refused : (o : Outcome Word) (n p : ℕ) → recorded o ≡ refused n p → o ≡ refused n p

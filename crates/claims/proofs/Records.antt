@@ -1,12 +1,12 @@
 -- An accepted call of word to record: its word, its record, and what it leaves. Assumes nothing.
-use mathlib.Core.Path.{_≡_, refl, sym, ap, ap₂, _∙_}
-use mathlib.Core.List.{List, _++_}
+use mathlib.Core.Path.{_≡_, sym, ap, ap₂, _∙_}
+use mathlib.Core.List.{List}
 use mathlib.Core.Logic.{_↔_}
 use Prim.Native.Nat.{ℕ, _+_, _<_, _≤_}
 use native.Mathlib.Decide.{decLe}
 use native.Mathlib.Omega.{arith}
 use lib.ListN.{length, take, drop, getD}
-use lib.Seq.{sets, sets-eq, drop-at}
+use lib.Seq.{sets-eq, drop-at}
 use Rattle.lists.specs.Tables.{values, filled}
 use Rattle.lists.proofs.Tables.{values-length, filled-at}
 use Rattle.group.specs.Letters.{Word}
@@ -21,7 +21,7 @@ use Rattle.group.proofs.Sizes.{form-sum, form-index}
 use Rattle.group.proofs.Theorems.{form-map, forms↔joined}
 use Rattle.refusals.specs.Outcomes.{Outcome, accepted, refused, writtenOf}
 use Rattle.refusals.specs.declared.Written.{Written}
-use Rattle.refusals.proofs.Outcomes.{accepted-refused, accepted-same}
+use Rattle.refusals.proofs.Outcomes.{accepted-refused}
 use Rattle.records.specs.Format.{encode, Within}
 use Rattle.records.specs.Reading.{decode}
 use Rattle.records.proofs.ReadBack.{encode-injective}
@@ -29,8 +29,8 @@ use Rattle.records.proofs.Accepted.{decode-encode}
 use Rattle.records.proofs.Lengths.{encode-size}
 use Rattle.forest.specs.Filling.{tableAfter}
 use Rattle.words.specs.Recording.{Memory, memory, judgedWith, recordOfWord, recorded, bufferAfter, Left, Recorded}
-use Rattle.words.specs.Recording.{Accepts, WordWritten}
-use Rattle.words.proofs.Judged.{RecordFit, accepted-record}
+use Rattle.words.specs.Recording.{WordWritten}
+use Rattle.words.proofs.Judged.{accepted-record}
 use Rattle.words.proofs.Compared.{front-record}
 use Rattle.claims.specs.Demands.{KeptMap}
 use Rattle.claims.proofs.Refusals.{Judged, refuses, accepts, judge-word, judged-accepted}

@@ -6,7 +6,7 @@ use Prim.Native.Nat.{ℕ, zero, suc, _+_, _-_, _<_, _≤_}
 use native.Mathlib.Numerals.{add-one}
 use native.Mathlib.Omega.{arith}
 use lib.ListN.{getD}
-use Rattle.group.specs.Forms.{bSide, aSide, Form, exponent}
+use Rattle.group.specs.Forms.{Form}
 use Rattle.group.specs.Limits.{limit}
 use Rattle.refusals.specs.Outcomes.{Outcome, accepted, refused, checked}
 use Rattle.records.specs.Reading.{breaks, firstBreak}

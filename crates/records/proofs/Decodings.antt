@@ -1,13 +1,13 @@
 -- What `record_to_tables` leaves in each of its cases. Assumes nothing.
 use mathlib.Core.Path.{_≡_, refl, sym, ap, _∙_}
-use mathlib.Core.Bool.{Bool, true, false, cond}
+use mathlib.Core.Bool.{cond}
 use mathlib.Core.List.{List, _++_}
 use Prim.Native.Nat.{ℕ, suc, _<_, _≤_}
 use native.Mathlib.Omega.{arith}
 use lib.ListN.{length, drop}
 use lib.Dec.{ltb}
 use borrow.Author.Tests.{lt-ltb, le-ltb}
-use Rattle.lists.specs.Tables.{values, filled}
+use Rattle.lists.specs.Tables.{filled}
 use Rattle.lists.proofs.Tables.{values-same}
 use Rattle.group.specs.Forms.{Side, bSide, aSide, Form, exponent}
 use Rattle.group.specs.Limits.{limit}
@@ -15,13 +15,13 @@ use Rattle.refusals.specs.declared.Verdict.{Verdict}
 use Rattle.refusals.specs.declared.Verdict.the-variants.{Accepted, Refused}
 use Rattle.refusals.specs.declared.Refusal.{Refusal}
 use Rattle.refusals.specs.declared.Refusal.the-variants.{ShortTable}
-use Rattle.refusals.specs.Outcomes.{Outcome, accepted, refused, after, then, checked, verdictOf}
+use Rattle.refusals.specs.Outcomes.{Outcome, accepted, refused, then, checked, verdictOf}
 use Rattle.records.specs.Reading.{bPowers, aPowers, exponentAt, decode}
 use Rattle.records.specs.Contracts.{decodedIn, tableRead, Decoded}
 use Rattle.records.specs.Faults.{formRead}
 use Rattle.records.specs.Steps.{frameOf, Ordered}
 use Rattle.records.specs.declared.reading.Frame.the-variants.{Exact, Broken}
-use Rattle.refusals.proofs.Outcomes.{accepted-same, accepted-refused}
+use Rattle.refusals.proofs.Outcomes.{accepted-refused}
 use Rattle.records.proofs.ReadBack.{sidePowers}
 use Rattle.records.proofs.Readings.{Readable, Reads, unframed, faulty, unreduced, readable, reads}
 use Rattle.records.proofs.Checks.{form-below}

@@ -1,14 +1,13 @@
 -- The loop over the entries of a field: what is left to scan gives what the whole gives. Assumes nothing.
 use mathlib.Core.Path.{_≡_, sym, ap, ap₂, _∙_}
 use mathlib.Core.Bool.{Bool, true, false, cond}
-use mathlib.Core.List.{List, _∷_}
-use Prim.Native.Nat.{ℕ, zero, suc, _+_, _-_, _*_, _<_, _≤_}
+use mathlib.Core.List.{List}
+use Prim.Native.Nat.{ℕ, suc, _+_, _-_, _*_, _<_, _≤_}
 use native.Mathlib.Numerals.{add-one}
 use native.Mathlib.Omega.{arith}
 use lib.ListN.{length}
 use Rattle.group.specs.Limits.{limit}
 use Rattle.refusals.specs.Outcomes.{Outcome, accepted, refused}
-use Rattle.records.specs.Format.{Power, power}
 use Rattle.records.specs.Reading.{twoAt, entriesAt, faulty, scan}
 use Rattle.records.proofs.WrittenEntries.{entries-next}
 use Rattle.records.proofs.Scans.{passed→fit}

@@ -2,10 +2,10 @@
 use mathlib.Core.Path.{_≡_}
 use mathlib.Core.Bool.{Bool, cond}
 use mathlib.Core.List.{List, [], _∷_}
-use Prim.Native.Nat.{ℕ, zero, suc, _+_, _/_, _≤_, _<_}
-use lib.ListN.{length, getD, set}
+use Prim.Native.Nat.{ℕ, suc, _≤_, _<_}
+use lib.ListN.{getD, set}
 use lib.Dec.{eqb, ltb}
-use Rattle.group.specs.Forms.{Side, bSide, aSide, Form, exponent}
+use Rattle.group.specs.Forms.{bSide, aSide, Form, exponent}
 use Rattle.lists.specs.Tables.{filled}
 use Rattle.group.specs.Limits.{limit}
 use Rattle.refusals.specs.Outcomes.{Outcome, accepted, refused, then, verdictOf, checked}

@@ -4,7 +4,7 @@ use mathlib.Core.Path.{_≡_, refl}
 use mathlib.Core.Bool.{Bool, true, false, cond}
 use Prim.Native.Nat.{ℕ}
 use native.Mathlib.Omega.{arith}
-use Rattle.refusals.specs.Outcomes.{Outcome, accepted, refused, then, checked}
+use Rattle.refusals.specs.Outcomes.{Outcome, accepted, refused, checked}
 
 module _ {A : Type 0} where
   pub accepted-same : {x y : A} → accepted x ≡ accepted y → x ≡ y

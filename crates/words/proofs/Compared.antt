@@ -5,9 +5,9 @@ use mathlib.Core.List.{List, [], _∷_}
 use Prim.Native.Nat.{ℕ, _+_, _≤_}
 use native.Mathlib.Omega.{arith}
 use lib.ListN.{length, take, replicate, length-replicate, length-take}
-use lib.Seq.{sets, sets-eq, take-at}
+use lib.Seq.{sets-eq, take-at}
 use lib.Dec.{eqb}
-use borrow.Author.Tests.{eqb-true, eqb-false, eq-eqb}
+use borrow.Author.Tests.{eqb-true, eq-eqb}
 use Rattle.group.specs.Letters.{Word}
 use Rattle.group.specs.Forms.{bSide, aSide}
 use Rattle.group.specs.Products.{formOf}
@@ -19,16 +19,15 @@ use Rattle.refusals.specs.declared.Refusal.{Refusal}
 use Rattle.refusals.specs.declared.Written.the-variants.{Refused as NotWritten}
 use Rattle.refusals.specs.Refusals.{numberOf, placeOf}
 use Rattle.refusals.specs.Outcomes.{Outcome, accepted, refused, checked, verdictOf}
-use Rattle.refusals.proofs.Outcomes.{accepted-same, accepted-refused, checked-accepted, checked-refused}
-use Rattle.records.specs.Format.{bufferSize}
+use Rattle.refusals.proofs.Outcomes.{accepted-same, checked-accepted, checked-refused}
 use Rattle.records.proofs.Lengths.{encode-size}
 use Rattle.forest.specs.Filling.{cells, room, tableAfter}
 use Rattle.words.specs.Recording.{recordOfWord, recorded, bufferAfter, Memory, judgedWith, Left}
 use Rattle.words.specs.Recording.{Recorded, Accepts, Ready, WordWritten}
 use Rattle.words.specs.Comparing.{decided, decisionOf, sameBytes, verdictBy, beside}
-use Rattle.words.specs.Comparing.{Compared, SameBytes, TwoWritten}
+use Rattle.words.specs.Comparing.{Compared, TwoWritten}
 use Rattle.words.specs.declared.Comparison.{Comparison}
-use Rattle.words.specs.declared.Comparison.the-variants.{Same, Different, First, Second}
+use Rattle.words.specs.declared.Comparison.the-variants.{First, Second}
 use Rattle.words.proofs.Judged.{accepted-record}
 
 -- Nothing is altered where the outcome is a refusal.

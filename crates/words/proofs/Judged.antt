@@ -11,8 +11,8 @@ use Rattle.group.specs.Limits.{limit}
 use Rattle.refusals.specs.declared.Verdict.{Verdict}
 use Rattle.refusals.specs.declared.Verdict.the-variants.{Accepted, Refused}
 use Rattle.refusals.specs.declared.Refusal.{Refusal}
-use Rattle.refusals.specs.Outcomes.{Outcome, accepted, refused, then, checked, verdictOf}
-use Rattle.refusals.proofs.Outcomes.{accepted-refused, accepted-same, passed, checked-accepted, checked-refused}
+use Rattle.refusals.specs.Outcomes.{Outcome, accepted, refused, then, checked, refusal, verdictOf}
+use Rattle.refusals.proofs.Outcomes.{accepted-refused, passed, checked-accepted, checked-refused}
 use Rattle.records.specs.Format.{bufferSize}
 use Rattle.forest.specs.Judging.{judged}
 use Rattle.forest.proofs.Judged.{Fit, accepted-fit}
@@ -54,10 +54,7 @@ module _ (word : List ℕ) (nb na nr : ℕ) where
       → verdictOf v ≡ checked (judgedRecord word nb na nr)
   judge-refuses v r h e =
       let o = checked-refused (judged word nb na) (sym (ap verdictOf e) ∙ h) in
-      ap verdictOf e ∙ sym (ap (λ (p : Outcome Word). checked p) (judged-then (verdictOf' r) o))
-    where
-      verdictOf' : Refusal → Outcome Word
-      verdictOf' r = Rattle.refusals.specs.Outcomes.refusal r
+      ap verdictOf e ∙ sym (ap (λ (p : Outcome Word). checked p) (judged-then (refusal r) o))
 
   -- It accepted, and the number of letters is within the limit.
   module _ (v : Verdict) (h : verdictOf v ≡ checked (judged word nb na)) (e : v ≡ Accepted) where

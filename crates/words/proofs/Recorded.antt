@@ -16,7 +16,7 @@ use Rattle.group.proofs.Bytes.{read-length}
 use Rattle.group.proofs.Sizes.{form-sum}
 use Rattle.refusals.specs.Outcomes.{Outcome, accepted, after, valued, checked}
 use Rattle.refusals.proofs.Outcomes.{accepted-same}
-use Rattle.records.specs.Format.{recordOf, encode, bufferSize}
+use Rattle.records.specs.Format.{recordOf}
 use Rattle.records.specs.Contracts.{encodingOf, encoded, Encoded}
 use Rattle.records.specs.declared.Encoding.{Encoding}
 use Rattle.records.specs.declared.Encoding.the-variants.{Bytes, Refused, Unfit}

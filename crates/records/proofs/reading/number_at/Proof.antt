@@ -1,8 +1,7 @@
 -- `number_at` meets its contract: two bytes make a number below 65,536. Assumes nothing.
 use mathlib.Core.Path.{refl}
-use Prim.Native.Nat.{_+_, _<_}
+use Prim.Native.Nat.{_+_}
 use native.Mathlib.Omega.{arith}
-use lib.ListN.{getD}
 use borrow.Author.Needs.{needs}
 use Rattle.records.proofs.reading.number_at.Statement.{statement}
 use Rattle.records.proofs.reading.number_at.Tie as tie
