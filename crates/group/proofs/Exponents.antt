@@ -4,7 +4,8 @@
 use mathlib.Core.Path.{_≡_, refl, sym}
 use Prim.Native.Nat.{ℕ, zero, suc}
 use native.Mathlib.Omega.{arith}
-use Rattle.group.specs.Forms.{Side, bSide, aSide, Form, empty, level, exponent, SameExponents, Trimmed}
+use lib.ListN.{getD}
+use Rattle.group.specs.Forms.{Side, bSide, aSide, Form, empty, level, exponent, exponents, SameExponents, Trimmed}
 
 abbrev pub above : Form → Form
 above empty = empty
@@ -13,6 +14,12 @@ above (level b a f) = f
 pub exponent-above : (s : Side) (f : Form) (i : ℕ) → exponent s (above f) i ≡ exponent s f (suc i)
 exponent-above s empty i = refl
 exponent-above s (level b a f) i = refl
+
+-- The exponents of a side, read at an index.
+pub exponents-at : (s : Side) (f : Form) (i : ℕ) → getD (exponents s f) i 0 ≡ exponent s f i
+exponents-at s empty i = refl
+exponents-at s (level b a f) zero = refl
+exponents-at s (level b a f) (suc i) = exponents-at s f i
 
 -- Levels with the same exponents, the first and then all above it.
 pub same-level : {b a c d : ℕ} (f g : Form) → b ≡ c → a ≡ d → SameExponents f g

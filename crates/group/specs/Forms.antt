@@ -3,9 +3,10 @@
 --     level b a f     b_0, a_0 and the levels above   letters f        the form written out in letters
 --     SameExponents   equal b_i and a_i at every i    exponentSum f    the number of its x_k and x_k⁻¹
 --     Trimmed f       no level (0, 0) at the end      levels f         the number of its levels
+--     exponents s f   the exponents of a side, level by level
 -- Assumes nothing.
 use mathlib.Core.Path.{_≡_}
-use mathlib.Core.List.{[], _∷_, _++_}
+use mathlib.Core.List.{List, [], _∷_, _++_}
 use Prim.Native.Nat.{ℕ, zero, suc, _+_, _<_}
 use lib.ListN.{replicate}
 use Rattle.lists.specs.Copies.{copies}
@@ -36,6 +37,11 @@ abbrev pub exponent : Side → Form → ℕ → ℕ
 exponent s empty i = 0
 exponent s (level b a f) zero = onSide s b a
 exponent s (level b a f) (suc i) = exponent s f i
+
+-- The exponents of a side, level by level.
+abbrev pub exponents : Side → Form → List ℕ
+exponents s empty = []
+exponents s (level b a f) = onSide s b a ∷ exponents s f
 
 -- Two forms have the same b_i and the same a_i at every i.
 abbrev pub SameExponents : Form → Form → Type 0

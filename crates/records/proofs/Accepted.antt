@@ -6,12 +6,12 @@ use mathlib.Core.List.{List}
 use mathlib.Core.Logic.{_↔_}
 use Prim.Native.Nat.{ℕ, suc, _+_, _≤_}
 use native.Mathlib.Omega.{arith}
-use Rattle.group.specs.Forms.{Side, bSide, aSide, Form}
+use Rattle.group.specs.Forms.{Side, bSide, aSide, Form, exponents}
 use Rattle.group.specs.Limits.{limit}
 use Rattle.group.specs.Reducing.{Applies}
 use Rattle.group.proofs.Reduced.{Canonical}
 use Rattle.refusals.specs.Outcomes.{accepted}
-use Rattle.records.specs.Format.{Power, powers, entries, exponents, encode, Within}
+use Rattle.records.specs.Format.{Power, powers, entries, encode, Within}
 use Rattle.records.specs.Reading.{bPowers, aPowers, exponentAt, decode}
 use Rattle.records.specs.Faults.{Bytes, formRead}
 use Rattle.records.proofs.Framing.{fields, frames→frame, frame-written}

@@ -4,8 +4,8 @@ use mathlib.Core.Path.{_≡_, refl, ap}
 use Prim.Native.Nat.{ℕ, zero, suc, _≤_}
 use native.Mathlib.Omega.{arith}
 use Rattle.lists.specs.Tables.{values}
-use Rattle.group.specs.Forms.{Side, bSide, aSide, Form, empty, level, onSide, exponent, levels}
-use Rattle.records.specs.Format.{putPower, powers, recordOf, exponents, encode}
+use Rattle.group.specs.Forms.{Side, bSide, aSide, Form, empty, level, onSide, exponent, levels, exponents}
+use Rattle.records.specs.Format.{putPower, powers, recordOf, encode}
 
 -- The zeros behind the last level are no powers.
 powers-values : (s : Side) (f : Form) (m i : ℕ) → levels f ≤ m

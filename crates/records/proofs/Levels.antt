@@ -1,10 +1,9 @@
--- The form with given exponents, `formUpTo`, read back; and the exponents of a form, as a list. Assumes nothing.
+-- The form with given exponents, `formUpTo`, read back, and the sum of a form's exponents. Assumes nothing.
 use mathlib.Core.Path.{_≡_, refl, _∙_}
 use Prim.Native.Nat.{ℕ, zero, suc, _+_, _<_, _≤_}
 use native.Mathlib.Omega.{arith}
-use lib.ListN.{getD}
-use Rattle.group.specs.Forms.{Side, bSide, aSide, Form, empty, level, onSide, exponent, exponentSum, Trimmed}
-use Rattle.records.specs.Format.{powers, exponents}
+use Rattle.group.specs.Forms.{Side, bSide, aSide, Form, empty, level, onSide, exponent, exponents, exponentSum, Trimmed}
+use Rattle.records.specs.Format.{powers}
 use Rattle.records.specs.Reading.{putLevel, formUpTo}
 use Rattle.records.proofs.ProperPowers.{total, total-put}
 
@@ -61,12 +60,6 @@ upTo-trimmed zero b a = tt
 upTo-trimmed (suc m) b a =
     put-trimmed (b 0) (a 0) (formUpTo m (λ j. b (suc j)) (λ j. a (suc j)))
     (upTo-trimmed m (λ j. b (suc j)) (λ j. a (suc j)))
-
--- The exponents of a form, read at an index.
-pub exponents-at : (s : Side) (f : Form) (i : ℕ) → getD (exponents s f) i 0 ≡ exponent s f i
-exponents-at s empty i = refl
-exponents-at s (level b a f) zero = refl
-exponents-at s (level b a f) (suc i) = exponents-at s f i
 
 -- The exponents of both sides' powers sum to the form's.
 pub exponents-total : (f : Form) (i : ℕ)

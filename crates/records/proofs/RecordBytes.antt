@@ -3,10 +3,10 @@ use mathlib.Core.List.{List, [], _∷_, _++_}
 use Prim.Native.Nat.{ℕ, zero, suc, _/_, _%_, _<_, _≤_}
 use native.Mathlib.Omega.{arith}
 use lib.ListN.{length}
-use Rattle.group.specs.Forms.{Side, bSide, aSide, Form}
+use Rattle.group.specs.Forms.{Side, bSide, aSide, Form, exponents}
 use Rattle.group.specs.Limits.{limit}
 use Rattle.records.specs.Format.{Power, power, powers, twoBytes, entries, field, bTag, aTag}
-use Rattle.records.specs.Format.{exponents, encode, Within}
+use Rattle.records.specs.Format.{encode, Within}
 use Rattle.records.specs.Faults.{Bytes}
 use Rattle.records.proofs.Lengths.{entries-length}
 use Rattle.records.proofs.WrittenEntries.{}

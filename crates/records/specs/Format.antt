@@ -6,7 +6,7 @@
 use mathlib.Core.List.{List, [], _∷_, _++_}
 use Prim.Native.Nat.{ℕ, zero, suc, _+_, _*_, _/_, _%_, _<_, _≤_}
 use lib.ListN.{length}
-use Rattle.group.specs.Forms.{Side, bSide, aSide, Form, empty, level, onSide, exponent, exponentSum}
+use Rattle.group.specs.Forms.{Side, bSide, aSide, Form, exponent, exponents, exponentSum}
 use Rattle.group.specs.Limits.{limit}
 
 -- A power of a generator: its index and its exponent.
@@ -45,11 +45,6 @@ aTag = 2
 -- The record of the exponents b_0, b_1, … and a_0, a_1, …: the field of the b side, then the field of the a side.
 abbrev pub recordOf : List ℕ → List ℕ → List ℕ
 recordOf b a = field bTag (entries (powers 0 b)) ++ field aTag (entries (powers 0 a))
-
--- The exponents of a side, level by level.
-abbrev pub exponents : Side → Form → List ℕ
-exponents s empty = []
-exponents s (level b a f) = onSide s b a ∷ exponents s f
 
 -- The record of a form.
 abbrev pub encode : Form → List ℕ

@@ -1,0 +1,2 @@
+-- Laws of trees.
+pub mod Readings
