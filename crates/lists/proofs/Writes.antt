@@ -1,5 +1,6 @@
 -- Runs of writes joined, one behind another; none of these asks whether the bytes fit.
 --     sets-append   two runs are one            write-then   two writes are one
+--     sets-replicate   equal elements, one by one
 --     write-part    a write into a lent part, seen in the whole
 --     write-start, write-more, write-rest, write-done   a loop of writes: its start, a turn, all that is left, its end
 -- Assumes nothing.
@@ -8,7 +9,8 @@ use mathlib.Core.List.{List, [], _∷_, _++_, append-nil}
 use Prim.Native.Nat.{ℕ, suc, _+_, _-_, _≤_}
 use native.Mathlib.Nat.{add-zero, add-suc, suc-add, le-add-right}
 use native.Mathlib.Omega.{arith}
-use lib.ListN.{take, drop, length, set, length-append, length-set, length-drop, take-append-drop, drop-of-length-le}
+use lib.ListN.{take, drop, length, set, replicate, length-append, length-set, length-drop, length-replicate}
+use lib.ListN.{replicate-append-replicate, take-append-drop, drop-of-length-le}
 use lib.Seq.{take-all, sets, length-sets, drop-set-add, take-set-le}
 use Rattle.lists.specs.Writes.{Wrote, Writing}
 
@@ -17,6 +19,14 @@ sets-append [] l i b = ap (λ (k : ℕ). sets l k b) (add-zero i)
 sets-append (x ∷ a) l i b =
     ap (λ (k : ℕ). sets (sets (set l i x) (suc i) a) k b) (add-suc i (length a) ∙ sym (suc-add i (length a)))
     ∙ sets-append a (set l i x) (suc i) b
+
+-- One element more of a run of equal elements.
+pub sets-replicate : (l : List ℕ) (i k x : ℕ)
+    → set (sets l i (replicate k x)) (i + k) x ≡ sets l i (replicate (k + 1) x)
+sets-replicate l i k x =
+    ap (λ (n : ℕ). set (sets l i (replicate k x)) (i + n) x) (sym (length-replicate k x))
+    ∙ sets-append (replicate k x) l i (x ∷ [])
+    ∙ ap (λ (a : List ℕ). sets l i a) (replicate-append-replicate k 1 x)
 
 pub write-then : {a b s t u : List ℕ} {i j r : ℕ} → Wrote a s i t j → Wrote b t j u r → Wrote (a ++ b) s i u r
 write-then {a} {b} {s} {t} {u} {i} {j} {r} v w = record {

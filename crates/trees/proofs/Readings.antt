@@ -1,4 +1,4 @@
--- The exponents of a tree, read subtree by subtree. That they are those of 000, definition 2.7, is proved in Leaves.
+-- The exponents of a tree, read subtree by subtree. That they are those of 000, definition 2.7, is proved in Exponents.
 --     leftEdge t   the left edges from the first leaf of a subtree up to its root
 --     later t      the exponents of the leaves of an interior subtree behind its first
 --     exponentsOf  those of all leaves of a tree, or of a subtree on the right side

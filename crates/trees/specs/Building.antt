@@ -19,6 +19,11 @@ needed i [] = 0
 needed i (zero ∷ es) = needed (suc i) es
 needed i (suc e ∷ es) = larger (suc (i + (suc e + total es))) (needed (suc i) es)
 
+-- The same, one exponent in front of the others: `sum` is that of all, `behind` what the others need.
+abbrev pub raised : (i exponent sum behind : ℕ) → ℕ
+raised i zero sum behind = behind
+raised i (suc e) sum behind = larger (suc (i + sum)) behind
+
 -- A row of trees has single leaves behind its last.
 abbrev pub firstTree : List Tree → Tree
 firstTree [] = leaf

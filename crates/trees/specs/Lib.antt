@@ -5,3 +5,4 @@ pub mod Building
 pub mod Pairs
 pub mod Shapes
 pub mod Writing
+pub mod Steps

@@ -1,0 +1,82 @@
+-- The shape of a tree in one pass over its exponents, with one counter: what `nodesFrom` gives is the shape (01, 'The
+-- tree pair and the length').
+--     allButLast t   the exponents of the leaves but the last
+-- Assumes nothing.
+use mathlib.Core.Path.{_≡_, refl, sym, _∙_, ap, ap₂}
+use mathlib.Core.List.{List, [], _∷_, _++_, append-assoc}
+use Prim.Native.Nat.{ℕ, suc, _+_, _≤_}
+use native.Mathlib.Omega.{arith}
+use lib.ListN.{length, replicate, length-append}
+use lib.Seq.{ext-getD}
+use Rattle.lists.specs.Entries.{SameEntries}
+use Rattle.lists.proofs.Copies.{replicate-past}
+use Rattle.lists.proofs.Totals.{same-cons, same-append, same-zero}
+use Rattle.trees.specs.Trees.{Tree, leaf, caret, carets}
+use Rattle.trees.specs.Building.{needed, treeOf}
+use Rattle.trees.specs.Shapes.{shape}
+use Rattle.trees.specs.Writing.{nodesFrom}
+use Rattle.trees.proofs.Readings.{leftEdge, later, exponentsOf}
+use Rattle.trees.proofs.Exponents.{later-length}
+use Rattle.trees.proofs.Built.{tree-carets, tree-exponents}
+
+-- The exponents of the leaves but the last, whose exponent is 0.
+abbrev pub allButLast : Tree → List ℕ
+allButLast leaf = []
+allButLast (caret l r) = leftEdge l ∷ (later l ++ allButLast r)
+
+pub all-but-last-same : (t : Tree) → SameEntries (allButLast t) (exponentsOf t)
+all-but-last-same leaf i = sym (same-zero i)
+all-but-last-same (caret l r) i =
+    same-cons (leftEdge l) (leftEdge l) (later l ++ allButLast r) (later l ++ exponentsOf r) refl
+    (same-append (later l) (allButLast r) (exponentsOf r) (all-but-last-same r)) i
+
+pub all-but-last-length : (t : Tree) → length (allButLast t) ≡ carets t
+all-but-last-length leaf = refl
+all-but-last-length (caret l r) =
+    omega (arith, length-append (later l) (allButLast r), later-length l, all-but-last-length r)
+
+-- The nodes of an interior subtree l, with d more carets over it, and then those behind it.
+nodes-subtree : (l : Tree) (d e o p : ℕ) (es : List ℕ) → e ≡ d + leftEdge l → p ≡ o + d
+    → nodesFrom (e ∷ (later l ++ es)) (suc o) ≡ replicate d 1 ++ (shape l ++ nodesFrom es p)
+unfolding nodesFrom
+nodes-subtree leaf d e o p es he hp =
+    let q : e ≡ d = omega arith in
+    let r : o + e ≡ p = omega arith in
+    ap₂ (λ (x y : ℕ). replicate x 1 ++ (0 ∷ nodesFrom es y)) q r
+nodes-subtree (caret l r) d e o p es he hp =
+    ap (λ (x : List ℕ). nodesFrom (e ∷ x) (suc o)) (append-assoc (later l) (leftEdge r ∷ later r) es)
+    ∙ nodes-subtree l (suc d) e o (suc p) (leftEdge r ∷ (later r ++ es)) (omega arith) (omega arith)
+    ∙ ap
+    (λ (x : List ℕ). replicate (suc d) 1 ++ (shape l ++ x))
+    (nodes-subtree r 0 (leftEdge r) p p es (omega arith) (omega arith))
+    ∙ sym (replicate-past d 1 (shape l ++ (shape r ++ nodesFrom es p)))
+    ∙ ap (λ (x : List ℕ). replicate d 1 ++ (1 ∷ x)) (sym (append-assoc (shape l) (shape r) (nodesFrom es p)))
+
+-- A caret of the right side stands in front of the subtree that hangs on it.
+nodes-side : (e : ℕ) (es : List ℕ) → nodesFrom (e ∷ es) 0 ≡ 1 ∷ nodesFrom (e ∷ es) 1
+unfolding nodesFrom
+nodes-side e es =
+    let q : e ≡ 0 + e = omega arith in
+    ap (λ (k : ℕ). 1 ∷ (replicate e 1 ++ (0 ∷ nodesFrom es k))) q
+
+pub nodes-tree : (t : Tree) → nodesFrom (allButLast t) 0 ≡ shape t
+unfolding nodesFrom
+nodes-tree leaf = refl
+nodes-tree (caret l r) =
+    nodes-side (leftEdge l) (later l ++ allButLast r)
+    ∙ ap
+    (λ (s : List ℕ). 1 ∷ s)
+    (nodes-subtree l 0 (leftEdge l) 0 0 (allButLast r) (omega arith) (omega arith)
+    ∙ ap (λ (s : List ℕ). shape l ++ s) (nodes-tree r))
+
+-- The shape of the tree with n carets, from the exponents of its first n leaves.
+pub nodes-shape : (n : ℕ) (es : List ℕ) → length es ≡ n → needed 0 es ≤ n → nodesFrom es 0 ≡ shape (treeOf n es)
+nodes-shape n es e h = ap (λ (x : List ℕ). nodesFrom x 0) same ∙ nodes-tree t
+  where
+    t : Tree
+    t = treeOf n es
+
+    same : es ≡ allButLast t
+    same =
+        ext-getD 0 es (allButLast t) (omega (arith, all-but-last-length t, tree-carets n es h)) (λ i p.
+        sym (all-but-last-same t i ∙ tree-exponents n es h i))

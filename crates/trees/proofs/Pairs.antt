@@ -1,0 +1,113 @@
+-- The pair of trees of a form: it has the form's exponents, no such pair has fewer carets, and it is the only one of
+-- its size (01, 'The tree pair and the length'; 000, section 2.5). Assumes nothing.
+use mathlib.Core.Path.{_≡_, refl, sym, _∙_, ap}
+use Prim.Native.Nat.{ℕ, suc, _+_, _*_, _≤_}
+use native.Mathlib.Omega.{arith}
+use lib.ListN.{length, getD}
+use Rattle.lists.specs.Entries.{total, SameEntries}
+use Rattle.group.specs.Forms.{Side, bSide, aSide, Form, empty, level, exponent, exponents, levels, exponentSum}
+use Rattle.group.proofs.Exponents.{exponents-at}
+use Rattle.trees.specs.Trees.{Tree, leaf, carets}
+use Rattle.trees.specs.Exponents.{HasExponents}
+use Rattle.trees.specs.Building.{needed, treeOf}
+use Rattle.trees.specs.Pairs.{caretsOf, minusTree, plusTree, Pair, SmallestPair}
+use Rattle.trees.proofs.Readings.{exponentsOf}
+use Rattle.trees.proofs.Exponents.{has-same-exponents, has-exponents}
+use Rattle.trees.proofs.Rows.{tree-unique}
+use Rattle.trees.proofs.Needed.{larger-left, larger-right, larger-least, needed-bound}
+use Rattle.trees.proofs.Built.{tree-carets, tree-exponents, tree-least}
+
+-- A tree has the exponents of a side just when those read subtree by subtree are the same.
+pub side-entries : (s : Side) (f : Form) (t : Tree) → HasExponents t (exponent s f)
+    → SameEntries (exponentsOf t) (exponents s f)
+side-entries s f t h =
+    has-exponents t (exponents s f) .0
+    (has-same-exponents t (exponent s f) (λ k. getD (exponents s f) k 0) (λ k. sym (exponents-at s f k)) h)
+
+pub side-exponents : (s : Side) (f : Form) (t : Tree) → SameEntries (exponentsOf t) (exponents s f)
+    → HasExponents t (exponent s f)
+side-exponents s f t e =
+    has-same-exponents t (λ k. getD (exponents s f) k 0) (exponent s f) (exponents-at s f)
+    (has-exponents t (exponents s f) .1 e)
+
+-- N is at least what each side needs.
+a-needed : (f : Form) → needed 0 (exponents aSide f) ≤ caretsOf f
+a-needed f = larger-right (needed 0 (exponents bSide f)) (needed 0 (exponents aSide f))
+
+b-needed : (f : Form) → needed 0 (exponents bSide f) ≤ caretsOf f
+b-needed f = larger-left (needed 0 (exponents bSide f)) (needed 0 (exponents aSide f))
+
+-- T− and T+ have N carets.
+pub pair-carets : (f : Form) → (carets (minusTree f) ≡ caretsOf f) × (carets (plusTree f) ≡ caretsOf f)
+pair-carets f = (
+  tree-carets (caretsOf f) (exponents aSide f) (a-needed f),
+  tree-carets (caretsOf f) (exponents bSide f) (b-needed f),
+)
+
+-- They are a pair with the form's exponents.
+pub pair-of : (f : Form) → Pair f (minusTree f) (plusTree f)
+pair-of f = record {
+  same-size = pair-carets f .0 ∙ sym (pair-carets f .1);
+  a-exponents =
+      side-exponents aSide f (minusTree f) (tree-exponents (caretsOf f) (exponents aSide f) (a-needed f));
+  b-exponents = side-exponents bSide f (plusTree f) (tree-exponents (caretsOf f) (exponents bSide f) (b-needed f));
+}
+
+-- No pair has fewer carets.
+pub pair-least : (f : Form) (t s : Tree) → Pair f t s → caretsOf f ≤ carets t
+pair-least f t s p =
+    larger-least
+    (needed 0 (exponents bSide f))
+    (needed 0 (exponents aSide f))
+    (carets t)
+    (omega (arith, p .same-size, tree-least s (exponents bSide f) (side-entries bSide f s (p .b-exponents))))
+    (tree-least t (exponents aSide f) (side-entries aSide f t (p .a-exponents)))
+
+pub smallest-pair : (f : Form) → SmallestPair f (minusTree f) (plusTree f)
+smallest-pair f = record {
+  pair = pair-of f;
+  smallest = λ t s p. omega (arith, pair-carets f .0, pair-least f t s p);
+}
+
+-- A smallest pair has N carets, and is the pair.
+pub smallest-carets : (f : Form) (t s : Tree) → SmallestPair f t s → carets t ≡ caretsOf f
+smallest-carets f t s p =
+    omega (
+      arith,
+      pair-least f t s (p .pair),
+      p .smallest (minusTree f) (plusTree f) (pair-of f),
+      pair-carets f .0,
+    )
+
+pub carets-smallest : (f : Form) (t s : Tree) → Pair f t s → carets t ≡ caretsOf f → SmallestPair f t s
+carets-smallest f t s p e = record { pair = p; smallest = λ u v q. omega (arith, pair-least f u v q) }
+
+pub only-pair : (f : Form) (t s : Tree) → SmallestPair f t s → (t ≡ minusTree f) × (s ≡ plusTree f)
+only-pair f t s p =
+    let e : carets t ≡ caretsOf f = smallest-carets f t s p in (
+      tree-unique t (exponents aSide f) (side-entries aSide f t (p .pair .a-exponents))
+          ∙ ap (λ (n : ℕ). treeOf n (exponents aSide f)) e,
+      tree-unique s (exponents bSide f) (side-entries bSide f s (p .pair .b-exponents))
+          ∙ ap (λ (n : ℕ). treeOf n (exponents bSide f)) (sym (p .pair .same-size) ∙ e),
+    )
+
+-- The pair of the empty form is two leaves.
+pub empty-pair : (minusTree empty ≡ leaf) × (plusTree empty ≡ leaf)
+empty-pair = (refl, refl)
+
+-- At most 2l + 1 carets, where no index is above l and the exponents sum to at most l.
+side-length : (s : Side) (f : Form) → length (exponents s f) ≡ levels f
+side-length s empty = refl
+side-length s (level b a f) = ap suc (side-length s f)
+
+side-total : (s : Side) (f : Form) → total (exponents s f) ≤ exponentSum f
+side-total s empty = omega arith
+side-total bSide (level b a f) = omega (arith, side-total bSide f)
+side-total aSide (level b a f) = omega (arith, side-total aSide f)
+
+pub carets-limit : (l : ℕ) (f : Form) → levels f ≤ suc l → exponentSum f ≤ l → caretsOf f ≤ 2 * l + 1
+carets-limit l f h k =
+    larger-least (needed 0 (exponents bSide f)) (needed 0 (exponents aSide f)) (2 * l + 1) (go bSide) (go aSide)
+  where
+    go : (s : Side) → needed 0 (exponents s f) ≤ 2 * l + 1
+    go s = omega (arith, needed-bound (exponents s f), side-length s f, side-total s f)

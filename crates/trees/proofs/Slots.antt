@@ -1,0 +1,174 @@
+-- A form with exponents on its b side only sends slot k, which is leaf k of the tree with every caret on the right
+-- side, to leaf k of the tree with its exponents (000, section 2.5). Points are 0 and the inner points.
+--     powersMap es    the map of x0^e0 x1^e1 …          withDigits u c   the digits u in front of a point
+--     slot n k c      a point in slot k of n carets     slot-to-leaf     where the map sends it
+-- Assumes nothing.
+use mathlib.Core.Path.{_≡_, refl, sym, _∙_, ap, ap₂}
+use mathlib.Core.List.{List, [], _∷_, _++_, append-assoc}
+use Prim.Native.Nat.{ℕ, zero, suc, _+_, _<_}
+use native.Mathlib.Omega.{arith}
+use Rattle.lists.specs.Entries.{SameEntries}
+use Rattle.group.specs.Points.{Digit, 𝟎, 𝟏}
+use Rattle.group.specs.Forms.{bSide, aSide, Form, empty, level, exponents}
+use Rattle.group.proofs.Inner.{Inner, map-a, lift, lift-id, lift-lift, lift-cong}
+use Rattle.group.proofs.Actions.{iter, levelsMap}
+use Rattle.group.proofs.Slope.{iter-undo}
+use Rattle.group.proofs.Values.{Low, nought, inside, withDigit, onInner}
+use Rattle.trees.specs.Trees.{Tree, leaf, caret, carets, Address}
+use Rattle.trees.proofs.Readings.{leftEdge, later, exponentsOf}
+use Rattle.trees.proofs.Leaves.{LeafAt, leaf-le}
+
+-- The map of x0^e0 x1^e1 …, level by level.
+abbrev pub powersMap : List ℕ → Inner → Inner
+powersMap [] p = p
+powersMap (e ∷ es) p = iter map-a e (lift (powersMap es) p)
+
+-- A form is the map of its b side behind the inverse of that of its a side.
+pub form-sides : (f : Form) (p : Inner)
+    → levelsMap f (powersMap (exponents aSide f) p) ≡ powersMap (exponents bSide f) p
+form-sides empty p = refl
+form-sides (level b a f) p =
+    ap (iter map-a b)
+    (ap (lift (levelsMap f)) (iter-undo a (lift (powersMap (exponents aSide f)) p))
+    ∙ lift-lift (levelsMap f) (powersMap (exponents aSide f)) p
+    ∙ lift-cong (form-sides f) p)
+
+-- Lists with the same entries have the same map.
+powers-none : (es : List ℕ) → SameEntries es [] → (p : Inner) → powersMap es p ≡ p
+powers-none [] h p = refl
+powers-none (e ∷ es) h p =
+    ap (λ (k : ℕ). iter map-a k (lift (powersMap es) p)) (h 0)
+    ∙ lift-cong (powers-none es (λ i. h (suc i))) p
+    ∙ lift-id p
+
+pub powers-same : (es fs : List ℕ) → SameEntries es fs → (p : Inner) → powersMap es p ≡ powersMap fs p
+powers-same [] fs h p = sym (powers-none fs (λ i. sym (h i)) p)
+powers-same (e ∷ es) [] h p = powers-none (e ∷ es) h p
+powers-same (e ∷ es) (f ∷ fs) h p =
+    ap (λ (k : ℕ). iter map-a k (lift (powersMap es) p)) (h 0)
+    ∙ ap (iter map-a f) (lift-cong (powers-same es fs (λ i. h (suc i))) p)
+
+-- The same with 0.
+abbrev lowPowers : List ℕ → Low → Low
+lowPowers es c = onInner (powersMap es) c
+
+-- Digits in front of a point.
+abbrev pub withDigits : List Digit → Low → Low
+withDigits [] c = c
+withDigits (d ∷ u) c = withDigit d (withDigits u c)
+
+-- The rules of a: 0 by 00, 10 by 01, 11 by 1; and a lifted map on 0 and 1.
+a-on-0 : (c : Low) → onInner map-a (withDigit 𝟎 c) ≡ withDigit 𝟎 (withDigit 𝟎 c)
+a-on-0 nought = refl
+a-on-0 (inside p) = refl
+
+a-on-10 : (c : Low) → onInner map-a (withDigit 𝟏 (withDigit 𝟎 c)) ≡ withDigit 𝟎 (withDigit 𝟏 c)
+a-on-10 nought = refl
+a-on-10 (inside p) = refl
+
+a-on-11 : (c : Low) → onInner map-a (withDigit 𝟏 (withDigit 𝟏 c)) ≡ withDigit 𝟏 c
+a-on-11 nought = refl
+a-on-11 (inside p) = refl
+
+lift-on-0 : (g : Inner → Inner) (c : Low) → onInner (lift g) (withDigit 𝟎 c) ≡ withDigit 𝟎 c
+lift-on-0 g nought = refl
+lift-on-0 g (inside p) = refl
+
+lift-on-1 : (g : Inner → Inner) (c : Low) → onInner (lift g) (withDigit 𝟏 c) ≡ withDigit 𝟏 (onInner g c)
+lift-on-1 g nought = refl
+lift-on-1 g (inside p) = refl
+
+powers-suc : (e : ℕ) (es : List ℕ) (c : Low) → lowPowers (suc e ∷ es) c ≡ onInner map-a (lowPowers (e ∷ es) c)
+powers-suc e es nought = refl
+powers-suc e es (inside p) = refl
+
+-- k digits 1 in front of a point.
+abbrev withOnes : ℕ → Low → Low
+withOnes zero c = c
+withOnes (suc k) c = withDigit 𝟏 (withOnes k c)
+
+with-ones-add : (n k j : ℕ) (c : Low) → k ≡ n + j → withOnes k c ≡ withOnes n (withOnes j c)
+with-ones-add zero k j c e =
+    let d : k ≡ j = omega arith in
+    ap (λ (m : ℕ). withOnes m c) d
+with-ones-add (suc n) zero j c e = absurd (omega arith)
+with-ones-add (suc n) (suc k) j c e = ap (withDigit 𝟏) (with-ones-add n k j c (omega arith))
+
+-- A point in slot k of n carets: k digits 1 and a 0 in front of it, or n digits 1 in the last slot.
+abbrev pub slot : ℕ → ℕ → Low → Low
+slot zero k c = c
+slot (suc n) zero c = withDigit 𝟎 c
+slot (suc n) (suc k) c = withDigit 𝟏 (slot n k c)
+
+slot-ones : (m n k j s : ℕ) (c : Low) → k ≡ m + j → n ≡ m + s → slot n k c ≡ withOnes m (slot s j c)
+slot-ones zero n k j s c e d =
+    let x : k ≡ j = omega arith in
+    let y : n ≡ s = omega arith in
+    ap₂ (λ (v w : ℕ). slot v w c) y x
+slot-ones (suc m) zero k j s c e d = absurd (omega arith)
+slot-ones (suc m) (suc n) zero j s c e d = absurd (omega arith)
+slot-ones (suc m) (suc n) (suc k) j s c e d =
+    ap (withDigit 𝟏) (slot-ones m n k j s c (omega arith) (omega arith))
+
+-- Where it is not the last, the carets behind it do not matter.
+slot-low : (k n m : ℕ) (c : Low) → k < n → k < m → slot n k c ≡ slot m k c
+slot-low k zero m c h g = absurd (omega arith)
+slot-low k (suc n) zero c h g = absurd (omega arith)
+slot-low zero (suc n) (suc m) c h g = refl
+slot-low (suc k) (suc n) (suc m) c h g = ap (withDigit 𝟏) (slot-low k n m c (omega arith) (omega arith))
+
+-- The first exponents belong to a left subtree l, the others follow: a caret more of l, with its exponents in order.
+more-carets : (l r : Tree) (es : List ℕ) (c : Low)
+    → lowPowers (leftEdge (caret l r) ∷ (later (caret l r) ++ es)) c
+    ≡ onInner map-a (lowPowers (leftEdge l ∷ (later l ++ (leftEdge r ∷ (later r ++ es)))) c)
+more-carets l r es c =
+    ap (λ (xs : List ℕ). lowPowers (suc (leftEdge l) ∷ xs) c) (append-assoc (later l) (leftEdge r ∷ later r) es)
+    ∙ powers-suc (leftEdge l) (later l ++ (leftEdge r ∷ (later r ++ es))) c
+
+-- A tree that hangs on the right side: what lies behind it, and its leaves.
+subtree-behind : (l : Tree) (es : List ℕ) (c : Low)
+    → lowPowers (leftEdge l ∷ (later l ++ es)) (withOnes (suc (carets l)) c) ≡ withDigit 𝟏 (lowPowers es c)
+subtree-behind leaf es c = lift-on-1 (powersMap es) c
+subtree-behind (caret l r) es c =
+    ap (lowPowers (suc (leftEdge l) ∷ ((later l ++ (leftEdge r ∷ later r)) ++ es)))
+    (with-ones-add (suc (carets l)) (suc (carets l + suc (carets r))) (suc (carets r)) c (omega arith))
+    ∙ more-carets l r es (withOnes (suc (carets l)) (withOnes (suc (carets r)) c))
+    ∙ ap (onInner map-a)
+    (subtree-behind l (leftEdge r ∷ (later r ++ es)) (withOnes (suc (carets r)) c)
+    ∙ ap (withDigit 𝟏) (subtree-behind r es c))
+    ∙ a-on-11 (lowPowers es c)
+
+subtree-in : (l : Tree) (k : ℕ) (u : Address) (es : List ℕ) (c : Low) → LeafAt l k u
+    → lowPowers (leftEdge l ∷ (later l ++ es)) (slot (suc k) k c) ≡ withDigit 𝟎 (withDigits u c)
+subtree-in leaf k [] es c h = rw h (lift-on-0 (powersMap es) c)
+subtree-in leaf k (d ∷ u) es c h = absurd h
+subtree-in (caret l r) k [] es c h = absurd h
+subtree-in (caret l r) k (𝟎 ∷ u) es c h =
+    more-carets l r es (slot (suc k) k c)
+    ∙ ap (onInner map-a) (subtree-in l k u (leftEdge r ∷ (later r ++ es)) c h)
+    ∙ a-on-0 (withDigits u c)
+subtree-in (caret l r) k (𝟏 ∷ u) es c h =
+    more-carets l r es (slot (suc k) k c)
+    ∙ ap (λ (d : Low). onInner map-a (lowPowers (leftEdge l ∷ (later l ++ (leftEdge r ∷ (later r ++ es)))) d))
+    (slot-ones (suc (carets l)) (suc k) k (h .0) (suc (h .0)) c (omega (arith, h .1)) (omega (arith, h .1)))
+    ∙ ap (onInner map-a)
+    (subtree-behind l (leftEdge r ∷ (later r ++ es)) (slot (suc (h .0)) (h .0) c)
+    ∙ ap (withDigit 𝟏) (subtree-in r (h .0) u es c (h .2)))
+    ∙ a-on-10 (withDigits u c)
+
+-- The powers with the exponents of a tree send slot k to leaf k.
+pub slot-to-leaf : (t : Tree) (k : ℕ) (u : Address) (c : Low) → LeafAt t k u
+    → onInner (powersMap (exponentsOf t)) (slot (carets t) k c) ≡ withDigits u c
+slot-to-leaf leaf k [] nought h = refl
+slot-to-leaf leaf k [] (inside p) h = ap inside (lift-id p)
+slot-to-leaf leaf k (d ∷ u) c h = absurd h
+slot-to-leaf (caret l r) k [] c h = absurd h
+slot-to-leaf (caret l r) k (𝟎 ∷ u) c h =
+    ap (lowPowers (leftEdge l ∷ (later l ++ exponentsOf r)))
+    (slot-low k (carets l + suc (carets r)) (suc k) c (omega (arith, leaf-le l k u h)) (omega arith))
+    ∙ subtree-in l k u (exponentsOf r) c h
+slot-to-leaf (caret l r) k (𝟏 ∷ u) c h =
+    ap (lowPowers (leftEdge l ∷ (later l ++ exponentsOf r)))
+    (slot-ones (suc (carets l)) (carets l + suc (carets r)) k (h .0) (carets r) c (omega (arith, h .1)) (omega arith))
+    ∙ subtree-behind l (exponentsOf r) (slot (carets r) (h .0) c)
+    ∙ ap (withDigit 𝟏) (slot-to-leaf r (h .0) u c (h .2))
