@@ -57,7 +57,7 @@ returns-5 c =
 
 write-tree-requires : tie.Need-write-tree-requires
 write-tree-requires c κs =
-    fits-minus (
+    fits-minus {b = c .before .before .before .before .before .before .before .before .before .before .before .args .b .now} (
     record {
       b-size = omega (arith, c .before .before .before .before .before .before .if1 .left);
       a-size = omega (arith, c .before .before .before .before .before .if2 .left);
@@ -66,7 +66,7 @@ write-tree-requires c κs =
 
 write-tree-requires-2 : tie.Need-write-tree-requires-2
 write-tree-requires-2 c κs =
-    fits-plus (
+    fits-plus {a = c .before .before .before .before .before .before .before .before .before .before .before .before .before .before .before .args .a .now} (
     record {
       b-size = omega (arith, c .before .before .before .before .before .before .before .before .before .before .if1 .left);
       a-size = omega (arith, c .before .before .before .before .before .before .before .before .before .if2 .left);
