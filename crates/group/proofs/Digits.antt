@@ -12,19 +12,22 @@ use Rattle.group.proofs.Values.{Low, nought, inside, withDigit, value, 
 use Rattle.group.proofs.Values.{on-inner-id, on-inner-twice, on-inner-cong}
 
 -- The digits that a word makes of digits.
-abbrev moveAll : Word → List Digit → List Digit
+abbrev pub moveAll : Word → List Digit → List Digit
 moveAll [] p = p
 moveAll (x ∷ w) p = moveDigits x (moveAll w p)
 
-map-below1 : (w : Word) (p : List Digit) → mapOf w (below1 p) ≡ below1 (moveAll w p)
+-- A word's map takes a point below 1 to the point of the digits that the word makes.
+pub map-below1 : (w : Word) (p : List Digit) → mapOf w (below1 p) ≡ below1 (moveAll w p)
 map-below1 [] p = refl
 map-below1 (x ∷ w) p = ap (moveLetter x) (map-below1 w p)
 
+-- The point 1 is fixed.
 map-end1 : (w : Word) → mapOf w end1 ≡ end1
 map-end1 [] = refl
 map-end1 (x ∷ w) = ap (moveLetter x) (map-end1 w)
 
-move-all-value : (w : Word) (p : List Digit) → value (moveAll w p) ≡ onInner (act w) (value p)
+-- The value of what a word makes of digits.
+pub move-all-value : (w : Word) (p : List Digit) → value (moveAll w p) ≡ onInner (act w) (value p)
 move-all-value [] p = sym (on-inner-id (value p))
 move-all-value (x ∷ w) p =
     move-digits-value x (moveAll w p)
@@ -103,11 +106,12 @@ low-equal nought (inside q) h = absurd (not-nought q h)
 low-equal (inside p) nought h = absurd (not-nought p (λ n. sym (h n)))
 low-equal (inside p) (inside q) h = ap inside (inner-equal p q h)
 
--- Digits of one point have one value, and digits of one value are one point.
+-- Digits of one point have one value.
 same→value : (p q : List Digit) → SamePoint (below1 p) (below1 q) → value p ≡ value q
 same→value p q h = low-equal (value p) (value q) (λ n. sym (digit-value p n) ∙ h n ∙ digit-value q n)
 
-value→same : (p q : List Digit) → value p ≡ value q → SamePoint (below1 p) (below1 q)
+-- Digits of one value are one point.
+pub value→same : (p q : List Digit) → value p ≡ value q → SamePoint (below1 p) (below1 q)
 value→same p q e n = digit-value p n ∙ ap (λ c. lowDigit c n) e ∙ sym (digit-value q n)
 
 -- The ends are fixed, and the zeros behind the last digit make no difference.

@@ -41,15 +41,15 @@ on-inner-cong f g h nought = refl
 on-inner-cong f g h (inside p) = ap inside (h p)
 
 -- The three rules of a: 0 by 00, 10 by 01, 11 by 1.
-a-on-0 : (c : Low) → withDigit 𝟎 (withDigit 𝟎 c) ≡ onInner map-a (withDigit 𝟎 c)
+pub a-on-0 : (c : Low) → withDigit 𝟎 (withDigit 𝟎 c) ≡ onInner map-a (withDigit 𝟎 c)
 a-on-0 nought = refl
 a-on-0 (inside p) = refl
 
-a-on-10 : (c : Low) → withDigit 𝟎 (withDigit 𝟏 c) ≡ onInner map-a (withDigit 𝟏 (withDigit 𝟎 c))
+pub a-on-10 : (c : Low) → withDigit 𝟎 (withDigit 𝟏 c) ≡ onInner map-a (withDigit 𝟏 (withDigit 𝟎 c))
 a-on-10 nought = refl
 a-on-10 (inside p) = refl
 
-a-on-11 : (c : Low) → withDigit 𝟏 c ≡ onInner map-a (withDigit 𝟏 (withDigit 𝟏 c))
+pub a-on-11 : (c : Low) → withDigit 𝟏 c ≡ onInner map-a (withDigit 𝟏 (withDigit 𝟏 c))
 a-on-11 nought = refl
 a-on-11 (inside p) = refl
 
@@ -83,11 +83,12 @@ rule-B-behind-1 𝟎 𝟎 r = refl
 rule-B-behind-1 𝟎 𝟏 r = refl
 rule-B-behind-1 𝟏 f r = refl
 
-lift-behind-0 : (g : Inner → Inner) (c : Low) → withDigit 𝟎 c ≡ onInner (lift g) (withDigit 𝟎 c)
+-- A lifted map behind a leading digit: nothing behind 0, the map itself behind 1.
+pub lift-behind-0 : (g : Inner → Inner) (c : Low) → withDigit 𝟎 c ≡ onInner (lift g) (withDigit 𝟎 c)
 lift-behind-0 g nought = refl
 lift-behind-0 g (inside p) = refl
 
-lift-behind-1 : (g : Inner → Inner) (c : Low) → withDigit 𝟏 (onInner g c) ≡ onInner (lift g) (withDigit 𝟏 c)
+pub lift-behind-1 : (g : Inner → Inner) (c : Low) → withDigit 𝟏 (onInner g c) ≡ onInner (lift g) (withDigit 𝟏 c)
 lift-behind-1 g nought = refl
 lift-behind-1 g (inside p) = refl
 

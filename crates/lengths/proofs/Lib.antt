@@ -5,3 +5,4 @@ pub mod Places
 pub mod LaterKinds
 pub mod CaretClasses
 pub mod CaretKinds
+pub mod ReadSteps

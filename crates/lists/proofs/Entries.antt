@@ -1,6 +1,7 @@
--- Laws of `At`: the entries of two lists, one behind the other, and of an entry by its number. Assumes nothing.
-use mathlib.Core.Path.{_≡_, refl, sym, _∙_, subst}
-use mathlib.Core.List.{List, [], _∷_, _++_}
+-- Laws of `At`: the entries of two lists, one behind the other; which numbers have an entry, and which; the entries of
+-- a list of values. Assumes nothing.
+use mathlib.Core.Path.{_≡_, refl, sym, _∙_, ap, subst}
+use mathlib.Core.List.{List, [], _∷_, _++_, map}
 use mathlib.Core.Logic.{_⊎_, inl, inr}
 use Prim.Native.Nat.{ℕ, zero, suc, _+_, _<_}
 use native.Mathlib.Omega.{arith}
@@ -34,17 +35,19 @@ at-split (y ∷ xs) ys (suc k) x h = go (at-split xs ys k x h)
     go (inl p) = inl p
     go (inr p) = inr (p .0, omega (arith, p .1), p .2)
 
--- The numbers of entries are those below the length, and each is of one entry.
+-- A number of an entry is below the length.
 pub at-bound : {A : Type 0} (xs : List A) (k : ℕ) (x : A) → At xs k x → k < length xs
 at-bound [] k x h = absurd h
 at-bound (y ∷ xs) zero x h = omega arith
 at-bound (y ∷ xs) (suc k) x h = omega (arith, at-bound xs k x h)
 
+-- Each number below the length has an entry.
 pub at-exists : {A : Type 0} (xs : List A) (k : ℕ) → k < length xs → (x : A) × At xs k x
 at-exists [] k h = absurd (not-suc-le-zero h)
 at-exists (y ∷ xs) zero h = (y, refl)
 at-exists (y ∷ xs) (suc k) h = at-exists xs k (le-of-suc-le-suc h)
 
+-- It has only one.
 pub at-same : {A : Type 0} (xs : List A) (k : ℕ) (x y : A) → At xs k x → At xs k y → x ≡ y
 at-same [] k x y h g = absurd h
 at-same (z ∷ xs) zero x y h g = sym h ∙ g
@@ -55,3 +58,9 @@ pub at-getD : {A : Type 0} (xs : List A) (k : ℕ) (x other : A) → At xs k x �
 at-getD [] k x other h = absurd h
 at-getD (y ∷ xs) zero x other h = h
 at-getD (y ∷ xs) (suc k) x other h = at-getD xs k x other h
+
+-- An entry of the list of a function's values.
+pub at-map : {A B : Type 0} (f : A → B) (xs : List A) (k : ℕ) (x : A) → At xs k x → At (map f xs) k (f x)
+at-map f [] k x h = absurd h
+at-map f (y ∷ xs) zero x h = ap f h
+at-map f (y ∷ xs) (suc k) x h = at-map f xs k x h

@@ -1,7 +1,8 @@
--- A tree with n carets and given exponents exists just when n is at least the number they need (01, 'The tree pair and
--- the length').
+-- A tree with n carets and given exponents exists just when n is at least the number they need, so that this is the
+-- smallest number (01, 'The tree pair and the length'; 000, section 2.5.1).
 --     tree-carets, tree-exponents   the tree that is built has n carets and the exponents
 --     tree-holds, tree-least        no tree with the exponents has fewer carets than they need
+--     Enough n k es                 n carets are enough for the exponents es from leaf k on
 -- Assumes nothing.
 use mathlib.Core.Path.{_≡_, refl, sym, _∙_, ap, subst}
 use mathlib.Core.List.{List, [], _∷_, _++_, append-assoc}
@@ -9,46 +10,46 @@ use Prim.Native.Nat.{ℕ, zero, suc, _+_, _-_, _<_, _≤_}
 use native.Mathlib.Omega.{arith}
 use lib.ListN.{getD, drop}
 use Rattle.lists.specs.Entries.{total, SameEntries}
-use Rattle.lists.proofs.Totals.{same-cons, same-append, same-zero, total-append, entry-total}
+use Rattle.lists.proofs.Totals.{same-cons, same-append, same-none, same-zero, total-append, entry-total}
 use Rattle.trees.specs.Trees.{Tree, leaf, caret, carets}
 use Rattle.trees.specs.Building.{firstTree, laterTrees, grow, rowOf, overRow, needed, treeOf}
 use Rattle.trees.proofs.Readings.{leftEdge, later, exponentsOf}
 use Rattle.trees.proofs.Rows.{treeAt, tree-at-none, row-zeros, total-subtree, total-exponents}
 use Rattle.trees.proofs.Needed.{Holds, needed-holds, holds-same, holds-none, holds-total, holds-above}
 
--- n is above each place with the sum of the exponents from there on, where the sum is above 0.
-abbrev Room : ℕ → ℕ → List ℕ → Type 0
-Room n k [] = Unit {0}
-Room n k (e ∷ es) = (0 < e + total es → k + (e + total es) < n) × Room n (suc k) es
+-- n is above each place plus the sum of the exponents from there on, where the sum is above 0; the first place is k.
+abbrev Enough : ℕ → ℕ → List ℕ → Type 0
+Enough n k [] = Unit {0}
+Enough n k (e ∷ es) = (0 < e + total es → k + (e + total es) < n) × Enough n (suc k) es
 
--- An interior subtree l whose first leaf is k, with d more carets over it and the leaf m behind it.
-room-subtree : (l : Tree) (n k m d e : ℕ) (es : List ℕ) → e ≡ d + leftEdge l → m ≡ suc (k + carets l)
-    → k + (d + (carets l + total es)) < n → Room n m es → Room n k (e ∷ (later l ++ es))
-room-subtree leaf n k m d e es he hm h r = ((λ p. omega arith), go (omega arith))
+-- An interior subtree l whose first leaf is k, with d more left edges above it; m is the leaf behind it.
+enough-subtree : (l : Tree) (n k m d e : ℕ) (es : List ℕ) → e ≡ d + leftEdge l → m ≡ suc (k + carets l)
+    → k + (d + (carets l + total es)) < n → Enough n m es → Enough n k (e ∷ (later l ++ es))
+enough-subtree leaf n k m d e es he hm h r = ((λ p. omega arith), go (omega arith))
   where
-    go : m ≡ suc k → Room n (suc k) es
-    go q = subst (λ (j : ℕ). Room n j es) q r
-room-subtree (caret l s) n k m d e es he hm h r =
+    go : m ≡ suc k → Enough n (suc k) es
+    go q = subst (λ (j : ℕ). Enough n j es) q r
+enough-subtree (caret l s) n k m d e es he hm h r =
     subst
-    (λ (x : List ℕ). Room n k (e ∷ x))
+    (λ (x : List ℕ). Enough n k (e ∷ x))
     (sym (append-assoc (later l) (leftEdge s ∷ later s) es))
-    (room-subtree l n k (suc (k + carets l)) (suc d) e (leftEdge s ∷ (later s ++ es)) (omega arith) refl
+    (enough-subtree l n k (suc (k + carets l)) (suc d) e (leftEdge s ∷ (later s ++ es)) (omega arith) refl
     (omega (arith, total-append (later s) es, total-subtree s))
-    (room-subtree s n (suc (k + carets l)) m 0 (leftEdge s) es (omega arith) (omega arith) (omega arith) r))
+    (enough-subtree s n (suc (k + carets l)) m 0 (leftEdge s) es (omega arith) (omega arith) (omega arith) r))
 
-room-exponents : (t : Tree) (n k : ℕ) → n ≡ k + carets t → Room n k (exponentsOf t)
-room-exponents leaf n k h = ((λ p. absurd (omega arith)), tt)
-room-exponents (caret l r) n k h =
-    room-subtree l n k (suc (k + carets l)) 0 (leftEdge l) (exponentsOf r) (omega arith) refl
+enough-exponents : (t : Tree) (n k : ℕ) → n ≡ k + carets t → Enough n k (exponentsOf t)
+enough-exponents leaf n k h = ((λ p. absurd (omega arith)), tt)
+enough-exponents (caret l r) n k h =
+    enough-subtree l n k (suc (k + carets l)) 0 (leftEdge l) (exponentsOf r) (omega arith) refl
     (omega (arith, total-exponents r))
-    (room-exponents r n (suc (k + carets l)) (omega arith))
+    (enough-exponents r n (suc (k + carets l)) (omega arith))
 
-room-holds : (n k : ℕ) (es : List ℕ) → Room n k es → (i : ℕ) → 0 < total (drop i es)
+enough-holds : (n k : ℕ) (es : List ℕ) → Enough n k es → (i : ℕ) → 0 < total (drop i es)
     → k + (i + total (drop i es)) < n
-room-holds n k [] r zero p = absurd (omega arith)
-room-holds n k [] r (suc i) p = absurd (omega arith)
-room-holds n k (e ∷ es) r zero p = omega (arith, r .0 p)
-room-holds n k (e ∷ es) r (suc i) p = omega (arith, room-holds n (suc k) es (r .1) i p)
+enough-holds n k [] r zero p = absurd (omega arith)
+enough-holds n k [] r (suc i) p = absurd (omega arith)
+enough-holds n k (e ∷ es) r zero p = omega (arith, r .0 p)
+enough-holds n k (e ∷ es) r (suc i) p = omega (arith, enough-holds n (suc k) es (r .1) i p)
 
 -- The number of carets of a tree holds for its exponents.
 pub tree-holds : (t : Tree) (es : List ℕ) → SameEntries (exponentsOf t) es → Holds (carets t) es
@@ -58,10 +59,11 @@ tree-holds t es h = holds-same (carets t) (exponentsOf t) es h own
     own i p =
         omega (
           arith,
-          room-holds (carets t) 0 (exponentsOf t) (room-exponents t (carets t) 0 (omega arith)) i
+          enough-holds (carets t) 0 (exponentsOf t) (enough-exponents t (carets t) 0 (omega arith)) i
               (omega (arith, entry-total i (exponentsOf t))),
         )
 
+-- It is at least the number that they need.
 pub tree-least : (t : Tree) (es : List ℕ) → SameEntries (exponentsOf t) es → needed 0 es ≤ carets t
 tree-least t es h = needed-holds (carets t) es .0 (tree-holds t es h)
 
@@ -130,8 +132,7 @@ row-exponents-grow zero t ts k h i =
 row-exponents-grow (suc e) t ts k h i =
     row-exponents-grow e (caret t u) us k (omega arith) i
     ∙ ap (λ (es : List ℕ). getD (k ∷ es) i 0) (append-assoc (later t) (leftEdge u ∷ later u) (rowExponents us))
-    ∙ sym (same-cons k k (later t ++ rowExponents ts) (later t ++ next) refl
-    (same-append (later t) (rowExponents ts) next (row-exponents-later ts)) i)
+    ∙ sym (same-append (k ∷ later t) (rowExponents ts) next (row-exponents-later ts) i)
   where
     u : Tree
     u = firstTree ts
@@ -154,19 +155,14 @@ row-exponents-none (t ∷ ts) h =
     subst
     (λ (u : Tree). SameEntries (leftEdge u ∷ (later u ++ rowExponents ts)) [])
     (sym (h 0))
-    (go (row-exponents-none ts (λ j. h (suc j))))
-  where
-    go : SameEntries (rowExponents ts) [] → SameEntries (0 ∷ rowExponents ts) []
-    go k zero = refl
-    go k (suc j) = k j
+    (same-none (rowExponents ts) (row-exponents-none ts (λ j. h (suc j))))
 
 over-exponents : (n : ℕ) (ts : List Tree) → LeavesFrom n ts
     → SameEntries (exponentsOf (overRow n ts)) (rowExponents ts)
 over-exponents zero ts h i = same-zero i ∙ sym (row-exponents-none ts (λ j. h j (omega arith)) i)
 over-exponents (suc n) ts h i =
-    same-cons (leftEdge u) (leftEdge u) (later u ++ exponentsOf rest) (later u ++ rowExponents (laterTrees ts)) refl
-    (same-append (later u) (exponentsOf rest) (rowExponents (laterTrees ts))
-    (over-exponents n (laterTrees ts) (λ j p. h (suc j) (omega arith)))) i
+    same-append (leftEdge u ∷ later u) (exponentsOf rest) (rowExponents (laterTrees ts))
+    (over-exponents n (laterTrees ts) (λ j p. h (suc j) (omega arith))) i
     ∙ sym (row-exponents-later ts i)
   where
     u : Tree
@@ -182,7 +178,7 @@ needed-total n es h = holds-total n es (needed-holds n es .1 h)
 row-ends : (n : ℕ) (es : List ℕ) → needed 0 es ≤ n → LeavesFrom (n - total es) (rowOf es)
 row-ends n es h = row-leaves es n (n - total es) (needed-holds n es .1 h) (omega (arith, needed-total n es h))
 
--- The tree has n carets and the exponents.
+-- The tree that is built has n carets.
 pub tree-carets : (n : ℕ) (es : List ℕ) → needed 0 es ≤ n → carets (treeOf n es) ≡ n
 tree-carets n es h =
     omega (
@@ -192,5 +188,6 @@ tree-carets n es h =
       needed-total n es h,
     )
 
+-- It has the exponents.
 pub tree-exponents : (n : ℕ) (es : List ℕ) → needed 0 es ≤ n → SameEntries (exponentsOf (treeOf n es)) es
 tree-exponents n es h i = over-exponents (n - total es) (rowOf es) (row-ends n es h) i ∙ row-exponents es i

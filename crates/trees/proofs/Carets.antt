@@ -1,6 +1,7 @@
--- Caret k stands between the leaves k and k + 1 (01, 'The tree pair and the length').
+-- Caret k stands between the leaves k and k + 1, and has two subtrees (01, 'The tree pair and the length'; 000,
+-- definition 2.1 and section 2.5).
 --     CaretAt t k v   caret k is at the address v, by the sides of the carets: the same as Caret t k v
---     rightEdges m    m right edges, one below the other
+--     rightEdges m    m right edges, one below the other          caret-between   the leaves beside a caret
 -- Assumes nothing.
 use mathlib.Core.Path.{_≡_, refl, sym, subst}
 use mathlib.Core.List.{[], _∷_, _++_}
@@ -9,7 +10,7 @@ use Prim.Native.Nat.{ℕ, zero, suc, _+_, _<_}
 use native.Mathlib.Omega.{arith}
 use lib.ListN.{length, length-append}
 use Rattle.lists.specs.Entries.{At}
-use Rattle.lists.proofs.Entries.{at-first, at-second, at-split}
+use Rattle.lists.proofs.Entries.{at-first, at-second, at-split, at-bound}
 use Rattle.group.specs.Points.{𝟎, 𝟏}
 use Rattle.trees.specs.Trees.{Tree, leaf, caret, carets, Address, below, Leaf, caretPlaces, Caret, Subtree}
 use Rattle.trees.specs.Exponents.{leftEdges}
@@ -35,7 +36,7 @@ CaretAt (caret l r) k [] = k ≡ carets l
 CaretAt (caret l r) k (𝟎 ∷ v) = CaretAt l k v
 CaretAt (caret l r) k (𝟏 ∷ v) = (j : ℕ) × (k ≡ suc (carets l + j)) × CaretAt r j v
 
--- CaretAt is entry k of the list of places.
+-- Entry k of the list of places is CaretAt, and the other way round.
 pub to-caret : (t : Tree) (k : ℕ) (v : Address) → Caret t k v → CaretAt t k v
 to-caret leaf k v h = absurd h
 to-caret (caret l r) k v h =
@@ -75,17 +76,14 @@ of-caret (caret l r) k (𝟏 ∷ v) h =
 
 -- The carets have the numbers below N.
 pub caret-lt : (t : Tree) (k : ℕ) (v : Address) → CaretAt t k v → k < carets t
-caret-lt leaf k v h = absurd h
-caret-lt (caret l r) k [] h = omega (arith, h)
-caret-lt (caret l r) k (𝟎 ∷ v) h = omega (arith, caret-lt l k v h)
-caret-lt (caret l r) k (𝟏 ∷ v) h = omega (arith, caret-lt r (h .0) v (h .2), h .1)
+caret-lt t k v h = omega (arith, at-bound (caretPlaces t) k v (of-caret t k v h), carets-numbered t)
 
 -- m right edges, one below the other.
 abbrev pub rightEdges : ℕ → Address
 rightEdges zero = []
 rightEdges (suc m) = 𝟏 ∷ rightEdges m
 
--- The first and the last leaf of a tree.
+-- The first leaf of a tree is below left edges only, the last below right edges only.
 pub first-leaf : (t : Tree) → (n : ℕ) × LeafAt t 0 (leftEdges n)
 first-leaf leaf = (0, refl)
 first-leaf (caret l r) =
@@ -98,7 +96,7 @@ last-leaf (caret l r) =
     let x = last-leaf r in
     (suc (x .0), (carets r, omega arith, x .1))
 
--- The leaves beside a caret.
+-- The leaves beside a caret, by the sides of the carets.
 beside : (t : Tree) (k : ℕ) (v : Address) → CaretAt t k v
     → (m n : ℕ) × LeafAt t k (v ++ (𝟎 ∷ rightEdges m)) × LeafAt t (suc k) (v ++ (𝟏 ∷ leftEdges n))
 beside leaf k v h = absurd h
@@ -130,7 +128,7 @@ subtree-append leaf (d ∷ u) v x y h g = absurd h
 subtree-append (caret l r) (𝟎 ∷ u) v x y h g = subtree-append l u v x y h g
 subtree-append (caret l r) (𝟏 ∷ u) v x y h g = subtree-append r u v x y h g
 
--- A caret has two subtrees below it, the left child and the right child.
+-- At a caret's address stands a caret over two subtrees.
 pub caret-subtree : (t : Tree) (k : ℕ) (v : Address) → Caret t k v → (l r : Tree) × Subtree t v (caret l r)
 caret-subtree t k v h = go t k v (to-caret t k v h)
   where
@@ -140,8 +138,10 @@ caret-subtree t k v h = go t k v (to-caret t k v h)
     go (caret l r) i (𝟎 ∷ u) p = go l i u p
     go (caret l r) i (𝟏 ∷ u) p = go r (p .0) u (p .2)
 
+-- The subtree at its left edge.
 pub left-child : (t : Tree) (v : Address) (l r : Tree) → Subtree t v (caret l r) → Subtree t (v ++ (𝟎 ∷ [])) l
 left-child t v l r h = subtree-append t v (𝟎 ∷ []) (caret l r) l h refl
 
+-- The subtree at its right edge.
 pub right-child : (t : Tree) (v : Address) (l r : Tree) → Subtree t v (caret l r) → Subtree t (v ++ (𝟏 ∷ [])) r
 right-child t v l r h = subtree-append t v (𝟏 ∷ []) (caret l r) r h refl

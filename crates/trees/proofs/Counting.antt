@@ -4,7 +4,7 @@ use mathlib.Core.List.{List, [], _∷_}
 use Prim.Native.Nat.{ℕ, zero, suc, _+_, _*_, _-_, _<_, _≤_}
 use native.Mathlib.Omega.{arith}
 use lib.ListN.{length, drop, getD}
-use lib.Seq.{drop-cons}
+use lib.Seq.{drop-cons, drop-length}
 use Rattle.lists.specs.Entries.{total}
 use Rattle.trees.specs.Building.{larger, needed, raised}
 
@@ -38,16 +38,12 @@ pub record Counted (e : List ℕ) (i sum n : ℕ) : Type 0 where
   pub bound : sum ≤ 65535 * (length e - i)
   pub carets : n ≡ needed i (drop i e)
 
-drop-all : (e : List ℕ) → drop (length e) e ≡ []
-drop-all [] = refl
-drop-all (x ∷ e) = drop-all e
-
 pub count-start : (e : List ℕ) → Counted e (length e) 0 0
 count-start e = record {
   within = omega arith;
-  sums = sym (ap total (drop-all e));
+  sums = sym (ap total (drop-length e));
   bound = omega arith;
-  carets = sym (ap (needed (length e)) (drop-all e));
+  carets = sym (ap (needed (length e)) (drop-length e));
 }
 
 -- One entry more.

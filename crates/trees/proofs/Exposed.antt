@@ -1,7 +1,8 @@
--- A caret with two leaves, by the exponents of the tree (000, theorem 2.6): off the right side, its left leaf has an
--- exponent above 0 and its right leaf the exponent 0; on the right side, it is the last caret, and one less would do.
---     Kind t i       the caret with the leaves i and i + 1 is one or the other
---     exposed-kind   such a caret is of a kind; the way back is in Exposing
+-- A caret with two leaves, by the exponents of the tree: off the right side, its left leaf has an exponent above 0 and
+-- its right leaf the exponent 0; on the right side, it is the last caret, and one less would do (000, definitions 2.4
+-- and 2.7, for theorem 2.6).
+--     Exposure t i   what the exponents say of the caret with the leaves i and i + 1: one or the other
+--     exposure-of    they say so where such a caret stands; the way back is in Exposing
 -- Assumes nothing.
 use mathlib.Core.Path.{_≡_, refl, sym, _∙_, subst}
 use mathlib.Core.List.{[], _∷_, _++_}
@@ -10,7 +11,7 @@ use Prim.Native.Nat.{ℕ, suc, _<_, _≤_}
 use native.Mathlib.Omega.{arith}
 use lib.ListN.{getD}
 use Rattle.lists.specs.Entries.{SameEntries}
-use Rattle.lists.proofs.Totals.{same-cons, same-append, same-zeros}
+use Rattle.lists.proofs.Totals.{same-append, same-zeros}
 use Rattle.group.specs.Points.{𝟎, 𝟏}
 use Rattle.trees.specs.Trees.{Tree, leaf, caret, carets, Address, RightSide}
 use Rattle.trees.specs.Exponents.{leftEdges}
@@ -18,19 +19,14 @@ use Rattle.trees.specs.Building.{needed}
 use Rattle.trees.specs.Pairs.{Exposed}
 use Rattle.trees.proofs.Readings.{leftEdge, later, exponentsOf}
 use Rattle.trees.proofs.Leaves.{LeafAt, to-leaf}
-use Rattle.trees.proofs.Exponents.{exponentFrom, addressExponent, exponent-from-left, exponent-at-leaf}
+use Rattle.trees.proofs.Exponents.{exponentFrom, addressExponent, exponent-from-left, exponent-from-longest}
+use Rattle.trees.proofs.Exponents.{exponent-at-leaf}
 use Rattle.trees.proofs.Built.{tree-least}
 
--- The exponents at a caret with two leaves, v the address of the caret.
-from-left : (v : Address) (d : ℕ) → 0 < exponentFrom d (v ++ (𝟎 ∷ []))
-from-left [] d = omega arith
-from-left (𝟎 ∷ v) d = from-left v (suc d)
-from-left (𝟏 ∷ v) d = from-left v 0
-
--- Its left leaf has an exponent above 0, or the caret is on the right side.
+-- The left leaf of a caret at v has an exponent above 0, or the caret is on the right side.
 left-exponent : (v : Address) → (0 < addressExponent (v ++ (𝟎 ∷ []))) ⊎ RightSide v
 left-exponent [] = inr tt
-left-exponent (𝟎 ∷ v) = inl (from-left v 0)
+left-exponent (𝟎 ∷ v) = inl (exponent-from-longest v 1 0)
 left-exponent (𝟏 ∷ v) = left-exponent v
 
 -- The first leaf of its right subtree, m left edges below, has the exponent m where the caret is off the right side.
@@ -44,6 +40,7 @@ next-exponent [] m h = absurd (h tt)
 next-exponent (𝟎 ∷ v) m h = from-next v 0 m
 next-exponent (𝟏 ∷ v) m h = next-exponent v m h
 
+-- The right leaf of a caret has the exponent 0.
 right-exponent : (v : Address) → addressExponent (v ++ (𝟏 ∷ [])) ≡ 0
 right-exponent [] = refl
 right-exponent (𝟎 ∷ v) = from-next v 0 0
@@ -73,18 +70,17 @@ prune (caret l r) i (𝟏 ∷ v) s p q =
       tree = caret l (x .tree);
       fewer = omega (arith, x .fewer, p .1);
       whole = omega (arith, x .whole, p .1);
-      entries =
-          same-cons (leftEdge l) (leftEdge l) (later l ++ exponentsOf (x .tree)) (later l ++ exponentsOf r) refl
-          (same-append (later l) (exponentsOf (x .tree)) (exponentsOf r) (x .entries));
+      entries = same-append (leftEdge l ∷ later l) (exponentsOf (x .tree)) (exponentsOf r) (x .entries);
     }
 
--- A caret whose leaves are i and i + 1, by the exponents.
-pub data Kind (t : Tree) (i : ℕ) : Type 0 where
-  inside : 0 < getD (exponentsOf t) i 0 → getD (exponentsOf t) (suc i) 0 ≡ 0 → Kind t i
-  last : carets t ≡ suc i → needed 0 (exponentsOf t) ≤ i → Kind t i
+-- A caret whose leaves are i and i + 1, by the exponents: off the right side, or the last caret of the right side.
+pub data Exposure (t : Tree) (i : ℕ) : Type 0 where
+  inside : 0 < getD (exponentsOf t) i 0 → getD (exponentsOf t) (suc i) 0 ≡ 0 → Exposure t i
+  last : carets t ≡ suc i → needed 0 (exponentsOf t) ≤ i → Exposure t i
 
-pub exposed-kind : (t : Tree) (i : ℕ) → Exposed t i → Kind t i
-exposed-kind t i c = go (left-exponent (c .top))
+-- A caret with two leaves is one of the two.
+pub exposure-of : (t : Tree) (i : ℕ) → Exposed t i → Exposure t i
+exposure-of t i c = go (left-exponent (c .top))
   where
     l : Address
     l = c .top ++ (𝟎 ∷ [])
@@ -92,7 +88,7 @@ exposed-kind t i c = go (left-exponent (c .top))
     r : Address
     r = c .top ++ (𝟏 ∷ [])
 
-    go : (0 < addressExponent l) ⊎ RightSide (c .top) → Kind t i
+    go : (0 < addressExponent l) ⊎ RightSide (c .top) → Exposure t i
     go (inl p) =
         inside
         (omega (arith, exponent-at-leaf t i l (c .left)))

@@ -1,34 +1,30 @@
--- Where the exponents of a tree say that a caret with two leaves stands (000, theorem 2.6), the way back from Exposed.
---     exposed-inside   leaf i has an exponent above 0 and leaf i + 1 the exponent 0
---     exposed-last     one caret less would do for the exponents: the last caret of the right side
+-- Where the exponents of a tree say that a caret with two leaves stands, one stands: the way back from Exposed (000,
+-- definitions 2.4 and 2.7, for theorem 2.6).
+--     exposed-inside   leaf i has an exponent above 0 and leaf i + 1 the exponent 0: they are on one caret
+--     exposed-last     one caret less would do for the exponents: the last two leaves are on one caret
 -- Assumes nothing.
 use mathlib.Core.Path.{_≡_, refl, sym, _∙_, ap, subst}
-use mathlib.Core.List.{List, [], _∷_, _++_}
-use mathlib.Core.Logic.{_⊎_, inl, inr}
-use Prim.Native.Nat.{ℕ, suc, _<_, _≤_}
+use mathlib.Core.List.{List, [], _∷_, _++_, append-assoc, append-nil}
+use mathlib.Core.Logic.{inl, inr}
+use Prim.Native.Nat.{ℕ, zero, suc, _<_, _≤_}
 use native.Mathlib.Omega.{arith}
 use lib.ListN.{getD}
 use Rattle.lists.specs.Entries.{SameEntries}
-use Rattle.lists.proofs.Totals.{same-cons, same-append, same-zeros}
+use Rattle.lists.proofs.Totals.{same-append, same-zeros}
 use Rattle.group.specs.Points.{𝟎, 𝟏}
 use Rattle.trees.specs.Trees.{Tree, leaf, caret, carets, Address, RightSide}
-use Rattle.trees.specs.Exponents.{leftEdges}
+use Rattle.trees.specs.Exponents.{leftEdges, UpFrom}
 use Rattle.trees.specs.Building.{needed, treeOf}
 use Rattle.trees.specs.Pairs.{Exposed}
 use Rattle.trees.proofs.Readings.{leftEdge, later, exponentsOf}
 use Rattle.trees.proofs.Leaves.{LeafAt, of-leaf, leaf-of}
-use Rattle.trees.proofs.Exponents.{exponentFrom, addressExponent, exponent-at-leaf}
+use Rattle.trees.proofs.Exponents.{left-edges-past, addressExponent, address-exponent, exponent-at-leaf}
+use Rattle.trees.proofs.Carets.{first-leaf}
 use Rattle.trees.proofs.Rows.{tree-only}
 use Rattle.trees.proofs.Built.{tree-holds, tree-carets, tree-exponents}
 use Rattle.trees.proofs.Exposed.{next-exponent}
 
 -- The leaf behind a left leaf is the first leaf of the right subtree.
-first-leaf : (t : Tree) → (m : ℕ) × LeafAt t 0 (leftEdges m)
-first-leaf leaf = (0, refl)
-first-leaf (caret l r) =
-    let x = first-leaf l in
-    (suc (x .0), x .1)
-
 next-leaf : (t : Tree) (i : ℕ) (v : Address) → LeafAt t i (v ++ (𝟎 ∷ []))
     → (m : ℕ) × LeafAt t (suc i) (v ++ (𝟏 ∷ leftEdges m))
 next-leaf leaf i [] p = absurd p
@@ -43,33 +39,27 @@ next-leaf (caret l r) i (𝟏 ∷ v) p =
     let x = next-leaf r (p .0) v (p .2) in
     (x .0, (suc (p .0), omega (arith, p .1), x .1))
 
--- A leaf with an exponent above 0 is a left leaf of a caret off the right side.
-from-ends : (u : Address) (d : ℕ) → 0 < exponentFrom d u → (u ≡ []) ⊎ ((v : Address) × (u ≡ v ++ (𝟎 ∷ [])))
-from-ends [] d h = inl refl
-from-ends (𝟎 ∷ u) d h = go (from-ends u (suc d) h)
-  where
-    go : (u ≡ []) ⊎ ((v : Address) × (u ≡ v ++ (𝟎 ∷ [])))
-        → (𝟎 ∷ u ≡ []) ⊎ ((v : Address) × (𝟎 ∷ u ≡ v ++ (𝟎 ∷ [])))
-    go (inl e) = inr ([], ap (λ (w : Address). 𝟎 ∷ w) e)
-    go (inr x) = inr (𝟎 ∷ x .0, ap (λ (w : Address). 𝟎 ∷ w) (x .1))
-from-ends (𝟏 ∷ u) d h = go (from-ends u 0 h)
-  where
-    go : (u ≡ []) ⊎ ((v : Address) × (u ≡ v ++ (𝟎 ∷ [])))
-        → (𝟏 ∷ u ≡ []) ⊎ ((v : Address) × (𝟏 ∷ u ≡ v ++ (𝟎 ∷ [])))
-    go (inl e) = absurd (omega (arith, ap (exponentFrom 0) e))
-    go (inr x) = inr (𝟏 ∷ x .0, ap (λ (w : Address). 𝟏 ∷ w) (x .1))
+-- The last of some left edges.
+left-edges-last : (v : Address) (k : ℕ) → v ++ leftEdges (suc k) ≡ (v ++ leftEdges k) ++ (𝟎 ∷ [])
+left-edges-last v k =
+    ap (λ (w : Address). v ++ w) (sym (left-edges-past k [] ∙ append-nil (leftEdges (suc k))))
+    ∙ sym (append-assoc v (leftEdges k) (𝟎 ∷ []))
 
+-- Below a node off the right side, all is off the right side.
+off-side : (v w : Address) → (RightSide v → ⊥) → RightSide (v ++ w) → ⊥
+off-side [] w h s = h tt
+off-side (𝟎 ∷ v) w h s = s
+off-side (𝟏 ∷ v) w h s = off-side v w h s
+
+-- A leaf with an exponent above 0 is the left leaf of a caret off the right side.
 exponent-ends : (u : Address) → 0 < addressExponent u → (v : Address) × (u ≡ v ++ (𝟎 ∷ [])) × (RightSide v → ⊥)
-exponent-ends [] h = absurd (omega arith)
-exponent-ends (𝟎 ∷ u) h = go (from-ends u 0 h)
+exponent-ends u = go (addressExponent u) (address-exponent u .path)
   where
-    go : (u ≡ []) ⊎ ((v : Address) × (u ≡ v ++ (𝟎 ∷ [])))
-        → (v : Address) × (𝟎 ∷ u ≡ v ++ (𝟎 ∷ [])) × (RightSide v → ⊥)
-    go (inl e) = absurd (omega (arith, ap (exponentFrom 0) e))
-    go (inr x) = (𝟎 ∷ x .0, ap (λ (w : Address). 𝟎 ∷ w) (x .1), λ s. s)
-exponent-ends (𝟏 ∷ u) h =
-    let x = exponent-ends u h in
-    (𝟏 ∷ x .0, ap (λ (w : Address). 𝟏 ∷ w) (x .1), x .2)
+    go : (e : ℕ) → UpFrom u e → 0 < e → (v : Address) × (u ≡ v ++ (𝟎 ∷ [])) × (RightSide v → ⊥)
+    go zero p h = absurd (omega arith)
+    go (suc k) (inl e) h = absurd (omega arith)
+    go (suc k) (inr r) h =
+        (r .0 ++ leftEdges k, r .1 ∙ left-edges-last (r .0) k, off-side (r .0) (leftEdges k) (r .2))
 
 -- A leaf with an exponent above 0, and behind it one with the exponent 0: the two leaves of a caret.
 pub exposed-inside : (t : Tree) (i : ℕ) → 0 < getD (exponentsOf t) i 0 → getD (exponentsOf t) (suc i) 0 ≡ 0
@@ -113,10 +103,9 @@ extended-carets leaf = omega arith
 extended-carets (caret l r) = omega (arith, extended-carets r)
 
 extended-same : (t : Tree) → SameEntries (exponentsOf (extended t)) (exponentsOf t)
-extended-same leaf j = sym (same-zeros j)
-extended-same (caret l r) j =
-    same-cons (leftEdge l) (leftEdge l) (later l ++ exponentsOf (extended r)) (later l ++ exponentsOf r) refl
-    (same-append (later l) (exponentsOf (extended r)) (exponentsOf r) (extended-same r)) j
+extended-same leaf = λ j. sym (same-zeros j)
+extended-same (caret l r) =
+    same-append (leftEdge l ∷ later l) (exponentsOf (extended r)) (exponentsOf r) (extended-same r)
 
 extended-leaves : (t : Tree)
     → (v : Address) × LeafAt (extended t) (carets t) (v ++ (𝟎 ∷ []))

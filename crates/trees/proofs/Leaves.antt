@@ -1,19 +1,18 @@
--- The leaf of a number, side by side of the tree (01, 'The tree pair and the length').
+-- The leaves of a tree by their numbers, which are 0 to N where it has N carets (01, 'The tree pair and the length').
 --     LeafAt t k u   leaf k is at the address u, by the sides of the carets: the same as Leaf t k u
 -- Assumes nothing.
 use mathlib.Core.Path.{_≡_, refl, ap, subst}
-use mathlib.Core.List.{List, [], _∷_}
+use mathlib.Core.List.{List, [], _∷_, _++_}
 use mathlib.Core.Logic.{_⊎_, inl, inr}
-use Prim.Native.Nat.{ℕ, zero, suc, _+_, _-_, _≤_}
+use Prim.Native.Nat.{ℕ, zero, suc, _+_, _≤_}
 use native.Mathlib.Omega.{arith}
-use native.Mathlib.Decide.{decLe}
 use lib.ListN.{length, length-append}
 use Rattle.lists.specs.Entries.{At}
-use Rattle.lists.proofs.Entries.{at-first, at-second, at-split}
+use Rattle.lists.proofs.Entries.{at-first, at-second, at-split, at-bound, at-exists}
 use Rattle.group.specs.Points.{Digit, 𝟎, 𝟏}
 use Rattle.trees.specs.Trees.{Tree, leaf, caret, carets, Address, below, leaves, Leaf}
 
--- The addresses with one edge in front: as many as without it, each in its place.
+-- Addresses with one edge in front: as many as without it, each in its place.
 pub below-length : (d : Digit) (us : List Address) → length (below d us) ≡ length us
 below-length d [] = refl
 below-length d (u ∷ us) = ap suc (below-length d us)
@@ -29,6 +28,11 @@ of-below d [] k u h = absurd h
 of-below d (v ∷ us) zero u h = (v, h, refl)
 of-below d (v ∷ us) (suc k) u h = of-below d us k u h
 
+-- The addresses below a caret, on the left and then on the right.
+pub both-length : (us vs : List Address) → length (below 𝟎 us ++ below 𝟏 vs) ≡ length us + length vs
+both-length us vs =
+    omega (arith, length-append (below 𝟎 us) (below 𝟏 vs), below-length 𝟎 us, below-length 𝟏 vs)
+
 -- Leaf k is at the address u, by the sides of the carets.
 abbrev pub LeafAt : Tree → ℕ → Address → Type 0
 LeafAt leaf k [] = k ≡ 0
@@ -37,42 +41,12 @@ LeafAt (caret l r) k [] = ⊥
 LeafAt (caret l r) k (𝟎 ∷ u) = LeafAt l k u
 LeafAt (caret l r) k (𝟏 ∷ u) = (j : ℕ) × (k ≡ suc (carets l + j)) × LeafAt r j u
 
--- The leaves have the numbers 0 to N, and there is a leaf of each.
-pub leaf-le : (t : Tree) (k : ℕ) (u : Address) → LeafAt t k u → k ≤ carets t
-leaf-le leaf k [] h = omega arith
-leaf-le leaf k (d ∷ u) h = absurd h
-leaf-le (caret l r) k [] h = absurd h
-leaf-le (caret l r) k (𝟎 ∷ u) h = omega (arith, leaf-le l k u h)
-leaf-le (caret l r) k (𝟏 ∷ u) h = omega (arith, leaf-le r (h .0) u (h .2), h .1)
-
-pub leaf-of : (t : Tree) (k : ℕ) → k ≤ carets t → (u : Address) × LeafAt t k u
-leaf-of leaf k h = ([], omega arith)
-leaf-of (caret l r) k h = go (decLe k (carets l)) (leaf-of l k) (leaf-of r (k - suc (carets l)))
-  where
-    go : Dec (k ≤ carets l) → (k ≤ carets l → (u : Address) × LeafAt l k u)
-        → (k - suc (carets l) ≤ carets r → (u : Address) × LeafAt r (k - suc (carets l)) u)
-        → (u : Address) × LeafAt (caret l r) k u
-    go (yes c) left right =
-        let v = left c in
-        (𝟎 ∷ v .0, v .1)
-    go (no c) left right =
-        let v = right (omega arith) in
-        (𝟏 ∷ v .0, (k - suc (carets l), omega arith, v .1))
-
 -- A tree with N carets has N + 1 leaves.
 pub leaves-length : (t : Tree) → length (leaves t) ≡ suc (carets t)
 leaves-length leaf = refl
-leaves-length (caret l r) =
-    omega (
-      arith,
-      length-append (below 𝟎 (leaves l)) (below 𝟏 (leaves r)),
-      below-length 𝟎 (leaves l),
-      below-length 𝟏 (leaves r),
-      leaves-length l,
-      leaves-length r,
-    )
+leaves-length (caret l r) = omega (arith, both-length (leaves l) (leaves r), leaves-length l, leaves-length r)
 
--- LeafAt is entry k of the list of leaves.
+-- Entry k of the list of leaves is LeafAt, and the other way round.
 pub to-leaf : (t : Tree) (k : ℕ) (u : Address) → Leaf t k u → LeafAt t k u
 to-leaf leaf zero u h = subst (λ (w : Address). LeafAt leaf 0 w) h refl
 to-leaf leaf (suc k) u h = absurd h
@@ -99,3 +73,12 @@ of-leaf (caret l r) k (𝟏 ∷ u) h =
     at-second (below 𝟎 (leaves l)) (below 𝟏 (leaves r)) k (h .0) (𝟏 ∷ u)
     (omega (arith, h .1, below-length 𝟎 (leaves l), leaves-length l))
     (to-below 𝟏 (leaves r) (h .0) u (of-leaf r (h .0) u (h .2)))
+
+-- The leaves have the numbers 0 to N, and each of these has a leaf.
+pub leaf-le : (t : Tree) (k : ℕ) (u : Address) → LeafAt t k u → k ≤ carets t
+leaf-le t k u h = omega (arith, at-bound (leaves t) k u (of-leaf t k u h), leaves-length t)
+
+pub leaf-of : (t : Tree) (k : ℕ) → k ≤ carets t → (u : Address) × LeafAt t k u
+leaf-of t k h =
+    let x = at-exists (leaves t) k (omega (arith, leaves-length t)) in
+    (x .0, to-leaf t k (x .0) (x .1))

@@ -1,5 +1,5 @@
--- The number of carets that exponents need is the least number above i + e_i + e_(i+1) + … + e_n for each e_i above 0
--- (01, 'The tree pair and the length').
+-- What `needed` gives is the least number above i + e_i + e_(i+1) + … + e_n for each e_i above 0. That it is the
+-- smallest number of carets of a tree with these exponents (01, 'The tree pair and the length') is proved in Built.
 --     Holds n es   n is above each of these sums
 -- Assumes nothing.
 use mathlib.Core.Path.{_≡_, sym}
@@ -13,7 +13,7 @@ use Rattle.lists.specs.Entries.{total, SameEntries}
 use Rattle.lists.proofs.Totals.{drop-total, drop-total-same, total-zeros}
 use Rattle.trees.specs.Building.{larger, needed}
 
--- The larger of two numbers is at least each, and at most what both are at most.
+-- The larger of two numbers is at least each, and at most every number that is at least both.
 pub larger-left : (m n : ℕ) → m ≤ larger m n
 larger-left zero n = omega arith
 larger-left (suc m) zero = omega arith
@@ -62,17 +62,18 @@ needed-above k n (suc e ∷ es) h (suc i) p =
           (omega (arith, larger-right (suc (k + (suc e + total es))) (needed (suc k) es))) i p,
     )
 
--- The least number that holds.
+-- It is the least number that holds.
 pub needed-holds : (n : ℕ) (es : List ℕ) → Holds n es ↔ (needed 0 es ≤ n)
 needed-holds n es = (
   (λ h. needed-least 0 n es (λ i p. omega (arith, h i p))),
   λ h i p. omega (arith, needed-above 0 n es h i p),
 )
 
--- It depends on the entries only.
+-- Whether a number holds depends on the entries only.
 pub holds-same : (n : ℕ) (es fs : List ℕ) → SameEntries es fs → Holds n es → Holds n fs
 holds-same n es fs e h i p = omega (arith, h i (omega (arith, e i)), drop-total-same i es fs e)
 
+-- And so does the least.
 pub needed-same : (es fs : List ℕ) → SameEntries es fs → needed 0 es ≡ needed 0 fs
 needed-same es fs e = omega (arith, one es fs e, one fs es (λ i. sym (e i)))
   where
@@ -81,7 +82,7 @@ needed-same es fs e = omega (arith, one es fs e, one fs es (λ i. sym (e i)))
         needed-holds (needed 0 xs) ys .0
         (holds-same (needed 0 xs) xs ys q (needed-holds (needed 0 xs) xs .1 (omega arith)))
 
--- At most one for each entry and each unit of an entry.
+-- It is at most the number of entries and their sum together.
 pub needed-bound : (es : List ℕ) → needed 0 es ≤ length es + total es
 needed-bound es = needed-holds (length es + total es) es .0 (λ i p. go i p (decLe (length es) i))
   where

@@ -10,7 +10,7 @@ use lib.ListN.{length, replicate, length-append}
 use lib.Seq.{ext-getD}
 use Rattle.lists.specs.Entries.{SameEntries}
 use Rattle.lists.proofs.Copies.{replicate-past}
-use Rattle.lists.proofs.Totals.{same-cons, same-append, same-zero}
+use Rattle.lists.proofs.Totals.{same-append, same-zero}
 use Rattle.trees.specs.Trees.{Tree, leaf, caret, carets}
 use Rattle.trees.specs.Building.{needed, treeOf}
 use Rattle.trees.specs.Shapes.{shape}
@@ -24,18 +24,19 @@ abbrev pub allButLast : Tree → List ℕ
 allButLast leaf = []
 allButLast (caret l r) = leftEdge l ∷ (later l ++ allButLast r)
 
+-- They have the entries of all exponents, as zeros stand behind them.
 pub all-but-last-same : (t : Tree) → SameEntries (allButLast t) (exponentsOf t)
-all-but-last-same leaf i = sym (same-zero i)
-all-but-last-same (caret l r) i =
-    same-cons (leftEdge l) (leftEdge l) (later l ++ allButLast r) (later l ++ exponentsOf r) refl
-    (same-append (later l) (allButLast r) (exponentsOf r) (all-but-last-same r)) i
+all-but-last-same leaf = λ i. sym (same-zero i)
+all-but-last-same (caret l r) =
+    same-append (leftEdge l ∷ later l) (allButLast r) (exponentsOf r) (all-but-last-same r)
 
+-- There is one for each caret.
 pub all-but-last-length : (t : Tree) → length (allButLast t) ≡ carets t
 all-but-last-length leaf = refl
 all-but-last-length (caret l r) =
     omega (arith, length-append (later l) (allButLast r), later-length l, all-but-last-length r)
 
--- The nodes of an interior subtree l, with d more carets over it, and then those behind it.
+-- The nodes of an interior subtree l, with d more carets before it, and then those behind it.
 nodes-subtree : (l : Tree) (d e o p : ℕ) (es : List ℕ) → e ≡ d + leftEdge l → p ≡ o + d
     → nodesFrom (e ∷ (later l ++ es)) (suc o) ≡ replicate d 1 ++ (shape l ++ nodesFrom es p)
 unfolding nodesFrom
@@ -59,6 +60,7 @@ nodes-side e es =
     let q : e ≡ 0 + e = omega arith in
     ap (λ (k : ℕ). 1 ∷ (replicate e 1 ++ (0 ∷ nodesFrom es k))) q
 
+-- The nodes from the first leaf on are the shape.
 pub nodes-tree : (t : Tree) → nodesFrom (allButLast t) 0 ≡ shape t
 unfolding nodesFrom
 nodes-tree leaf = refl

@@ -1,41 +1,30 @@
--- The pair of trees of a form: it has the form's exponents, no such pair has fewer carets, and it is the only one of
--- its size (01, 'The tree pair and the length'; 000, section 2.5). Assumes nothing.
+-- The pair of trees of a form: it has the form's exponents, no such pair has fewer carets, it is the only one of its
+-- size, and it has at most 2l + 1 carets for a form within the limit l (01, 'The tree pair and the length'; 000,
+-- section 2.5.1). Assumes nothing.
 use mathlib.Core.Path.{_≡_, refl, sym, _∙_, ap}
 use Prim.Native.Nat.{ℕ, suc, _+_, _*_, _≤_}
 use native.Mathlib.Omega.{arith}
-use lib.ListN.{length, getD}
-use Rattle.lists.specs.Entries.{total, SameEntries}
-use Rattle.group.specs.Forms.{Side, bSide, aSide, Form, empty, level, exponent, exponents, levels, exponentSum}
-use Rattle.group.proofs.Exponents.{exponents-at}
+use lib.ListN.{length}
+use Rattle.lists.specs.Entries.{total}
+use Rattle.group.specs.Forms.{Side, bSide, aSide, Form, empty, level, exponents, levels, exponentSum}
 use Rattle.trees.specs.Trees.{Tree, leaf, carets}
-use Rattle.trees.specs.Exponents.{HasExponents}
 use Rattle.trees.specs.Building.{needed, treeOf}
 use Rattle.trees.specs.Pairs.{caretsOf, minusTree, plusTree, Pair, SmallestPair}
-use Rattle.trees.proofs.Readings.{exponentsOf}
-use Rattle.trees.proofs.Exponents.{has-same-exponents, has-exponents}
+use Rattle.trees.proofs.Exponents.{side-entries, side-exponents}
 use Rattle.trees.proofs.Rows.{tree-unique}
 use Rattle.trees.proofs.Needed.{larger-left, larger-right, larger-least, needed-bound}
 use Rattle.trees.proofs.Built.{tree-carets, tree-exponents, tree-least}
 
--- A tree has the exponents of a side just when those read subtree by subtree are the same.
-pub side-entries : (s : Side) (f : Form) (t : Tree) → HasExponents t (exponent s f)
-    → SameEntries (exponentsOf t) (exponents s f)
-side-entries s f t h =
-    has-exponents t (exponents s f) .0
-    (has-same-exponents t (exponent s f) (λ k. getD (exponents s f) k 0) (λ k. sym (exponents-at s f k)) h)
-
-pub side-exponents : (s : Side) (f : Form) (t : Tree) → SameEntries (exponentsOf t) (exponents s f)
-    → HasExponents t (exponent s f)
-side-exponents s f t e =
-    has-same-exponents t (λ k. getD (exponents s f) k 0) (exponent s f) (exponents-at s f)
-    (has-exponents t (exponents s f) .1 e)
-
--- N is at least what each side needs.
-a-needed : (f : Form) → needed 0 (exponents aSide f) ≤ caretsOf f
+-- N is at least what each side needs, and at most what is enough for both.
+pub a-needed : (f : Form) → needed 0 (exponents aSide f) ≤ caretsOf f
 a-needed f = larger-right (needed 0 (exponents bSide f)) (needed 0 (exponents aSide f))
 
-b-needed : (f : Form) → needed 0 (exponents bSide f) ≤ caretsOf f
+pub b-needed : (f : Form) → needed 0 (exponents bSide f) ≤ caretsOf f
 b-needed f = larger-left (needed 0 (exponents bSide f)) (needed 0 (exponents aSide f))
+
+pub both-needed : (f : Form) (n : ℕ) → needed 0 (exponents bSide f) ≤ n → needed 0 (exponents aSide f) ≤ n
+    → caretsOf f ≤ n
+both-needed f n = larger-least (needed 0 (exponents bSide f)) (needed 0 (exponents aSide f)) n
 
 -- T− and T+ have N carets.
 pub pair-carets : (f : Form) → (carets (minusTree f) ≡ caretsOf f) × (carets (plusTree f) ≡ caretsOf f)
@@ -56,20 +45,18 @@ pair-of f = record {
 -- No pair has fewer carets.
 pub pair-least : (f : Form) (t s : Tree) → Pair f t s → caretsOf f ≤ carets t
 pair-least f t s p =
-    larger-least
-    (needed 0 (exponents bSide f))
-    (needed 0 (exponents aSide f))
-    (carets t)
+    both-needed f (carets t)
     (omega (arith, p .same-size, tree-least s (exponents bSide f) (side-entries bSide f s (p .b-exponents))))
     (tree-least t (exponents aSide f) (side-entries aSide f t (p .a-exponents)))
 
+-- It is a smallest pair.
 pub smallest-pair : (f : Form) → SmallestPair f (minusTree f) (plusTree f)
 smallest-pair f = record {
   pair = pair-of f;
   smallest = λ t s p. omega (arith, pair-carets f .0, pair-least f t s p);
 }
 
--- A smallest pair has N carets, and is the pair.
+-- A smallest pair has N carets.
 pub smallest-carets : (f : Form) (t s : Tree) → SmallestPair f t s → carets t ≡ caretsOf f
 smallest-carets f t s p =
     omega (
@@ -79,9 +66,11 @@ smallest-carets f t s p =
       pair-carets f .0,
     )
 
+-- A pair with N carets is a smallest pair.
 pub carets-smallest : (f : Form) (t s : Tree) → Pair f t s → carets t ≡ caretsOf f → SmallestPair f t s
 carets-smallest f t s p e = record { pair = p; smallest = λ u v q. omega (arith, pair-least f u v q) }
 
+-- It is the only one.
 pub only-pair : (f : Form) (t s : Tree) → SmallestPair f t s → (t ≡ minusTree f) × (s ≡ plusTree f)
 only-pair f t s p =
     let e : carets t ≡ caretsOf f = smallest-carets f t s p in (
@@ -95,7 +84,7 @@ only-pair f t s p =
 pub empty-pair : (minusTree empty ≡ leaf) × (plusTree empty ≡ leaf)
 empty-pair = (refl, refl)
 
--- At most 2l + 1 carets, where no index is above l and the exponents sum to at most l.
+-- A side has one exponent for each level, and they sum to at most the sum of both sides.
 side-length : (s : Side) (f : Form) → length (exponents s f) ≡ levels f
 side-length s empty = refl
 side-length s (level b a f) = ap suc (side-length s f)
@@ -105,9 +94,9 @@ side-total s empty = omega arith
 side-total bSide (level b a f) = omega (arith, side-total bSide f)
 side-total aSide (level b a f) = omega (arith, side-total aSide f)
 
+-- At most 2l + 1 carets, where no index is above l and the exponents sum to at most l.
 pub carets-limit : (l : ℕ) (f : Form) → levels f ≤ suc l → exponentSum f ≤ l → caretsOf f ≤ 2 * l + 1
-carets-limit l f h k =
-    larger-least (needed 0 (exponents bSide f)) (needed 0 (exponents aSide f)) (2 * l + 1) (go bSide) (go aSide)
+carets-limit l f h k = both-needed f (2 * l + 1) (go bSide) (go aSide)
   where
     go : (s : Side) → needed 0 (exponents s f) ≤ 2 * l + 1
     go s = omega (arith, needed-bound (exponents s f), side-length s f, side-total s f)

@@ -1,5 +1,5 @@
--- A pair of trees has no redundant caret just when its form is reduced and no pair with its exponents is smaller (000,
--- theorem 2.6). Assumes nothing.
+-- A pair of trees with the exponents of a form has no redundant caret just when the form is reduced and no pair with
+-- these exponents is smaller (000, definitions 2.4 and 2.5, for theorem 2.6). Assumes nothing.
 use mathlib.Core.Path.{_≡_, refl, sym, _∙_}
 use mathlib.Core.Logic.{_⊎_, inl, inr, _↔_}
 use Prim.Native.Nat.{ℕ, zero, suc, _<_, _≤_}
@@ -15,13 +15,15 @@ use Rattle.trees.specs.Exponents.{HasExponents}
 use Rattle.trees.specs.Building.{needed}
 use Rattle.trees.specs.Pairs.{caretsOf, minusTree, plusTree, Pair, SmallestPair, Redundant}
 use Rattle.trees.proofs.Readings.{exponentsOf}
-use Rattle.trees.proofs.Needed.{larger-left, larger-right, larger-least, needed-same}
+use Rattle.trees.proofs.Exponents.{side-entries}
+use Rattle.trees.proofs.Needed.{needed-same}
 use Rattle.trees.proofs.Built.{tree-holds}
-use Rattle.trees.proofs.Pairs.{side-entries, pair-carets, pair-of, pair-least, smallest-carets, carets-smallest}
-use Rattle.trees.proofs.Exposed.{Kind, inside, last, exposed-kind}
+use Rattle.trees.proofs.Pairs.{a-needed, b-needed, both-needed, pair-carets, pair-of, pair-least}
+use Rattle.trees.proofs.Pairs.{smallest-carets, carets-smallest}
+use Rattle.trees.proofs.Exposed.{Exposure, inside, last, exposure-of}
 use Rattle.trees.proofs.Exposing.{exposed-inside, exposed-last}
 
--- The exponent of the leaf in front of the last is 0.
+-- The leaf in front of the last has no exponent above 0.
 not-last : (t : Tree) (i : ℕ) → carets t ≡ suc i → 0 < getD (exponentsOf t) i 0 → ⊥
 not-last t i c p =
     omega (arith, p, c, tree-holds t (exponentsOf t) (λ j. refl) i p, entry-total i (exponentsOf t))
@@ -44,7 +46,7 @@ module _ (f : Form) (t s : Tree) (p : Pair f t s) where
 
   -- The smallest pair of a reduced form has no redundant caret.
   none-redundant : Reduced f → carets t ≡ caretsOf f → Redundant t s → ⊥
-  none-redundant r n c = go (exposed-kind t i (c .in-minus)) (exposed-kind s i (c .in-plus))
+  none-redundant r n c = go (exposure-of t i (c .in-minus)) (exposure-of s i (c .in-plus))
     where
       i : ℕ
       i = c .number
@@ -53,7 +55,7 @@ module _ (f : Form) (t s : Tree) (p : Pair f t s) where
       occurs y w (inl o) = omega (arith, o, y, a-is (suc i))
       occurs y w (inr o) = omega (arith, o, w, b-is (suc i))
 
-      go : Kind t i → Kind s i → ⊥
+      go : Exposure t i → Exposure s i → ⊥
       go (inside x y) (inside z w) =
           occurs y w (r i (omega (arith, x, a-is i)) (omega (arith, z, b-is i)))
       go (inside x y) (last d k) = not-last t i (p .same-size ∙ d) x
@@ -63,7 +65,7 @@ module _ (f : Form) (t s : Tree) (p : Pair f t s) where
             arith,
             n,
             d,
-            larger-least (needed 0 (exponents bSide f)) (needed 0 (exponents aSide f)) i
+            both-needed f i
                 (omega (arith, m, needed-is bSide f s (p .b-exponents)))
                 (omega (arith, k, needed-is aSide f t (p .a-exponents))),
           )
@@ -91,10 +93,10 @@ module _ (f : Form) (t s : Tree) (p : Pair f t s) where
         number = n;
         in-minus =
             exposed-last t (exponents aSide f) n e (side-entries aSide f t (p .a-exponents))
-            (omega (arith, c, larger-right (needed 0 (exponents bSide f)) (needed 0 (exponents aSide f))));
+            (omega (arith, c, a-needed f));
         in-plus =
             exposed-last s (exponents bSide f) n (sym (p .same-size) ∙ e) (side-entries bSide f s (p .b-exponents))
-            (omega (arith, c, larger-left (needed 0 (exponents bSide f)) (needed 0 (exponents aSide f))));
+            (omega (arith, c, b-needed f));
       }
 
       go : (n : ℕ) → carets t ≡ n → Dec (carets t ≤ caretsOf f) → carets t ≡ caretsOf f

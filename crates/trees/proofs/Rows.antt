@@ -22,18 +22,19 @@ treeAt (suc i) ts = treeAt i (laterTrees ts)
 abbrev pub SameTrees : List Tree → List Tree → Type 0
 SameTrees ts us = (i : ℕ) → treeAt i ts ≡ treeAt i us
 
--- A row of leaves.
+-- A row of no trees has single leaves only.
 pub tree-at-none : (i : ℕ) → treeAt i [] ≡ leaf
 tree-at-none zero = refl
 tree-at-none (suc i) = tree-at-none i
 
--- The row depends on the entries only.
+-- Rows of the same trees stay so when the first tree grows.
 grow-same : (e : ℕ) (t : Tree) (ts us : List Tree) → SameTrees ts us → SameTrees (grow e t ts) (grow e t us)
 grow-same zero t ts us h zero = refl
 grow-same zero t ts us h (suc i) = h i
 grow-same (suc e) t ts us h i =
     rw (h 0) (grow-same e (caret t (firstTree us)) (laterTrees ts) (laterTrees us) (λ j. h (suc j)) i)
 
+-- The row of zeros has single leaves only.
 pub row-zeros : (es : List ℕ) → SameEntries es [] → SameTrees (rowOf es) []
 row-zeros [] h i = refl
 row-zeros (e ∷ es) h i = rw (h 0) (go (row-zeros es (λ j. h (suc j))) i)
@@ -42,12 +43,14 @@ row-zeros (e ∷ es) h i = rw (h 0) (go (row-zeros es (λ j. h (suc j))) i)
     go k zero = refl
     go k (suc j) = k j
 
+-- The row depends on the entries only.
 pub row-same : (es fs : List ℕ) → SameEntries es fs → SameTrees (rowOf es) (rowOf fs)
 row-same [] fs h i = sym (row-zeros fs (λ j. sym (h j)) i)
 row-same (e ∷ es) [] h i = row-zeros (e ∷ es) h i
 row-same (e ∷ es) (f ∷ fs) h i =
     rw (h 0) (grow-same f leaf (rowOf es) (rowOf fs) (row-same es fs (λ j. h (suc j))) i)
 
+-- The right side over a row depends on its trees only.
 pub over-same : (n : ℕ) (ts us : List Tree) → SameTrees ts us → overRow n ts ≡ overRow n us
 over-same zero ts us h = refl
 over-same (suc n) ts us h = ap₂ caret (h 0) (over-same n (laterTrees ts) (laterTrees us) (λ i. h (suc i)))

@@ -1,37 +1,22 @@
--- The form of a pair of trees sends leaf k of the one to leaf k of the other, and every point below 1 lies in a leaf
--- (01, 'The tree pair and the length'; 000, section 2.5).
---     moveAll w p   the digits that a word makes of digits       digitsOf c   digits of a point below 1
--- Assumes nothing.
+-- The map of a form sends leaf k of the one tree to leaf k of the other, for every pair of trees with the form's
+-- exponents, and every point below 1 lies in a leaf (000, sections 2.5 and 2.5.1). Assumes nothing.
 use mathlib.Core.Path.{_≡_, refl, sym, _∙_, ap, subst}
 use mathlib.Core.List.{List, [], _∷_, _++_}
 use Prim.Native.Nat.{ℕ, zero, suc, _+_}
-use lib.ListN.{getD}
-use Rattle.lists.specs.Entries.{SameEntries}
-use Rattle.group.specs.Letters.{Word}
 use Rattle.group.specs.Points.{Digit, 𝟎, 𝟏, Point, below1, firstDigit, laterDigits, digitAt, SamePoint}
-use Rattle.group.specs.Maps.{moveDigits, moveLetter, mapOf}
-use Rattle.group.specs.Forms.{Side, bSide, aSide, Form, exponent, exponents, letters}
-use Rattle.group.proofs.Exponents.{exponents-at}
-use Rattle.group.proofs.Inner.{Inner, half, lower, upper, letterMap, act}
+use Rattle.group.specs.Forms.{bSide, aSide, Form, exponents, letters}
+use Rattle.group.proofs.Inner.{act}
 use Rattle.group.proofs.Actions.{levelsMap, act-letters}
-use Rattle.group.proofs.Values.{Low, nought, inside, withDigit, value, onInner, move-digits-value}
-use Rattle.group.proofs.Values.{on-inner-id, on-inner-twice, on-inner-cong}
+use Rattle.group.proofs.Values.{Low, withDigit, value, onInner, on-inner-twice, on-inner-cong}
+use Rattle.group.proofs.Digits.{moveAll, map-below1, move-all-value, value→same}
 use Rattle.trees.specs.Trees.{Tree, leaf, caret, carets, Address}
-use Rattle.trees.specs.Exponents.{HasExponents}
 use Rattle.trees.specs.Pairs.{Pair, SendsLeaves, InLeaf}
 use Rattle.trees.proofs.Readings.{exponentsOf}
 use Rattle.trees.proofs.Leaves.{LeafAt, to-leaf, of-leaf}
-use Rattle.trees.proofs.Exponents.{has-same-exponents, has-exponents}
+use Rattle.trees.proofs.Exponents.{side-entries}
 use Rattle.trees.proofs.Slots.{powersMap, form-sides, powers-same, withDigits, slot, slot-to-leaf}
 
--- A tree with the exponents of a side of a form has the entries of that side.
-pub side-entries : (s : Side) (f : Form) (t : Tree) → HasExponents t (exponent s f)
-    → SameEntries (exponentsOf t) (exponents s f)
-side-entries s f t h =
-    has-exponents t (exponents s f) .0
-    (has-same-exponents t (exponent s f) (λ k. getD (exponents s f) k 0) (λ k. sym (exponents-at s f k)) h)
-
--- On points with the digits of an address in front.
+-- What the levels of a form do to a point with the digits of an address in front.
 levels-send : (f : Form) (t s : Tree) → Pair f t s → (k : ℕ) (u v : Address) (c : Low) → LeafAt t k u → LeafAt s k v
     → onInner (levelsMap f) (withDigits u c) ≡ withDigits v c
 levels-send f t s pair k u v c lt ls =
@@ -49,55 +34,7 @@ levels-send f t s pair k u v c lt ls =
     ∙ ap (λ (m : ℕ). onInner (powersMap (exponentsOf s)) (slot m k c)) (pair .same-size)
     ∙ slot-to-leaf s k v c ls
 
--- The digits that a word makes of digits.
-abbrev moveAll : Word → List Digit → List Digit
-moveAll [] p = p
-moveAll (x ∷ w) p = moveDigits x (moveAll w p)
-
-map-below1 : (w : Word) (p : List Digit) → mapOf w (below1 p) ≡ below1 (moveAll w p)
-map-below1 [] p = refl
-map-below1 (x ∷ w) p = ap (moveLetter x) (map-below1 w p)
-
-move-all-value : (w : Word) (p : List Digit) → value (moveAll w p) ≡ onInner (act w) (value p)
-move-all-value [] p = sym (on-inner-id (value p))
-move-all-value (x ∷ w) p =
-    move-digits-value x (moveAll w p)
-    ∙ ap (onInner (letterMap x)) (move-all-value w p)
-    ∙ on-inner-twice (letterMap x) (act w) (value p)
-
--- Digits of a point below 1.
-abbrev innerDigits : Inner → List Digit
-innerDigits half = 𝟏 ∷ []
-innerDigits (lower p) = 𝟎 ∷ innerDigits p
-innerDigits (upper p) = 𝟏 ∷ innerDigits p
-
-abbrev digitsOf : Low → List Digit
-digitsOf nought = []
-digitsOf (inside p) = innerDigits p
-
-with-digit-first : (d : Digit) (c : Low) → firstDigit (digitsOf (withDigit d c)) ≡ d
-with-digit-first 𝟎 nought = refl
-with-digit-first 𝟎 (inside p) = refl
-with-digit-first 𝟏 nought = refl
-with-digit-first 𝟏 (inside p) = refl
-
-with-digit-later : (d : Digit) (c : Low) → laterDigits (digitsOf (withDigit d c)) ≡ digitsOf c
-with-digit-later 𝟎 nought = refl
-with-digit-later 𝟎 (inside p) = refl
-with-digit-later 𝟏 nought = refl
-with-digit-later 𝟏 (inside p) = refl
-
-value-digits : (p : List Digit) (n : ℕ) → digitAt p n ≡ digitAt (digitsOf (value p)) n
-value-digits [] n = refl
-value-digits (d ∷ p) zero = sym (with-digit-first d (value p))
-value-digits (d ∷ p) (suc n) =
-    value-digits p n ∙ sym (ap (λ (q : List Digit). digitAt q n) (with-digit-later d (value p)))
-
--- Digits of one value are one point.
-value→same : (p q : List Digit) → value p ≡ value q → SamePoint (below1 p) (below1 q)
-value→same p q e n =
-    value-digits p n ∙ ap (λ (c : Low). digitAt (digitsOf c) n) e ∙ sym (value-digits q n)
-
+-- The value of digits with an address in front.
 value-append : (u r : List Digit) → value (u ++ r) ≡ withDigits u (value r)
 value-append [] r = refl
 value-append (d ∷ u) r = ap (withDigit d) (value-append u r)

@@ -27,6 +27,7 @@ shapes-read (caret l r) s =
     ∙ ap (λ (ts : List Tree). l ∷ ts) (shapes-read r s) in
     rw e refl
 
+-- The tree is read off its shape.
 pub shape-read : (t : Tree) → readShape (shape t) ≡ t
 shape-read t = ap readShape (sym (append-nil (shape t))) ∙ ap firstTree (shapes-read t [])
 
@@ -50,6 +51,7 @@ abbrev pub shapes : List Tree → List ℕ
 shapes [] = []
 shapes (t ∷ ts) = shape t ++ shapes ts
 
+-- Exact bytes are the shapes of so many trees.
 pub exact-trees : (s : List ℕ) (n : ℕ) → Exact s n → (ts : List Tree) × (length ts ≡ n) × (shapes ts ≡ s)
 exact-trees [] zero h = ([], refl, refl)
 exact-trees [] (suc n) h = absurd h

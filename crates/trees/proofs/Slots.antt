@@ -14,6 +14,7 @@ use Rattle.group.proofs.Inner.{Inner, map-a, lift, lift-id, lift-lift, lift-con
 use Rattle.group.proofs.Actions.{iter, levelsMap}
 use Rattle.group.proofs.Slope.{iter-undo}
 use Rattle.group.proofs.Values.{Low, nought, inside, withDigit, onInner}
+use Rattle.group.proofs.Values.{a-on-0, a-on-10, a-on-11, lift-behind-0, lift-behind-1}
 use Rattle.trees.specs.Trees.{Tree, leaf, caret, carets, Address}
 use Rattle.trees.proofs.Readings.{leftEdge, later, exponentsOf}
 use Rattle.trees.proofs.Leaves.{LeafAt, leaf-le}
@@ -23,7 +24,7 @@ abbrev pub powersMap : List ℕ → Inner → Inner
 powersMap [] p = p
 powersMap (e ∷ es) p = iter map-a e (lift (powersMap es) p)
 
--- A form is the map of its b side behind the inverse of that of its a side.
+-- The map of a form takes what its a side makes of a point to what its b side makes of it.
 pub form-sides : (f : Form) (p : Inner)
     → levelsMap f (powersMap (exponents aSide f) p) ≡ powersMap (exponents bSide f) p
 form-sides empty p = refl
@@ -33,7 +34,7 @@ form-sides (level b a f) p =
     ∙ lift-lift (levelsMap f) (powersMap (exponents aSide f)) p
     ∙ lift-cong (form-sides f) p)
 
--- Lists with the same entries have the same map.
+-- Zeros move no point.
 powers-none : (es : List ℕ) → SameEntries es [] → (p : Inner) → powersMap es p ≡ p
 powers-none [] h p = refl
 powers-none (e ∷ es) h p =
@@ -41,6 +42,7 @@ powers-none (e ∷ es) h p =
     ∙ lift-cong (powers-none es (λ i. h (suc i))) p
     ∙ lift-id p
 
+-- Lists with the same entries have the same map.
 pub powers-same : (es fs : List ℕ) → SameEntries es fs → (p : Inner) → powersMap es p ≡ powersMap fs p
 powers-same [] fs h p = sym (powers-none fs (λ i. sym (h i)) p)
 powers-same (e ∷ es) [] h p = powers-none (e ∷ es) h p
@@ -57,27 +59,7 @@ abbrev pub withDigits : List Digit → Low → Low
 withDigits [] c = c
 withDigits (d ∷ u) c = withDigit d (withDigits u c)
 
--- The rules of a: 0 by 00, 10 by 01, 11 by 1; and a lifted map on 0 and 1.
-a-on-0 : (c : Low) → onInner map-a (withDigit 𝟎 c) ≡ withDigit 𝟎 (withDigit 𝟎 c)
-a-on-0 nought = refl
-a-on-0 (inside p) = refl
-
-a-on-10 : (c : Low) → onInner map-a (withDigit 𝟏 (withDigit 𝟎 c)) ≡ withDigit 𝟎 (withDigit 𝟏 c)
-a-on-10 nought = refl
-a-on-10 (inside p) = refl
-
-a-on-11 : (c : Low) → onInner map-a (withDigit 𝟏 (withDigit 𝟏 c)) ≡ withDigit 𝟏 c
-a-on-11 nought = refl
-a-on-11 (inside p) = refl
-
-lift-on-0 : (g : Inner → Inner) (c : Low) → onInner (lift g) (withDigit 𝟎 c) ≡ withDigit 𝟎 c
-lift-on-0 g nought = refl
-lift-on-0 g (inside p) = refl
-
-lift-on-1 : (g : Inner → Inner) (c : Low) → onInner (lift g) (withDigit 𝟏 c) ≡ withDigit 𝟏 (onInner g c)
-lift-on-1 g nought = refl
-lift-on-1 g (inside p) = refl
-
+-- One more in the first exponent is one more a.
 powers-suc : (e : ℕ) (es : List ℕ) (c : Low) → lowPowers (suc e ∷ es) c ≡ onInner map-a (lowPowers (e ∷ es) c)
 powers-suc e es nought = refl
 powers-suc e es (inside p) = refl
@@ -117,7 +99,7 @@ slot-low k (suc n) zero c h g = absurd (omega arith)
 slot-low zero (suc n) (suc m) c h g = refl
 slot-low (suc k) (suc n) (suc m) c h g = ap (withDigit 𝟏) (slot-low k n m c (omega arith) (omega arith))
 
--- The first exponents belong to a left subtree l, the others follow: a caret more of l, with its exponents in order.
+-- A caret over l and r, and es behind it: the powers with the exponents of l, of r and es, and then a once more.
 more-carets : (l r : Tree) (es : List ℕ) (c : Low)
     → lowPowers (leftEdge (caret l r) ∷ (later (caret l r) ++ es)) c
     ≡ onInner map-a (lowPowers (leftEdge l ∷ (later l ++ (leftEdge r ∷ (later r ++ es)))) c)
@@ -128,7 +110,7 @@ more-carets l r es c =
 -- A tree that hangs on the right side: what lies behind it, and its leaves.
 subtree-behind : (l : Tree) (es : List ℕ) (c : Low)
     → lowPowers (leftEdge l ∷ (later l ++ es)) (withOnes (suc (carets l)) c) ≡ withDigit 𝟏 (lowPowers es c)
-subtree-behind leaf es c = lift-on-1 (powersMap es) c
+subtree-behind leaf es c = sym (lift-behind-1 (powersMap es) c)
 subtree-behind (caret l r) es c =
     ap (lowPowers (suc (leftEdge l) ∷ ((later l ++ (leftEdge r ∷ later r)) ++ es)))
     (with-ones-add (suc (carets l)) (suc (carets l + suc (carets r))) (suc (carets r)) c (omega arith))
@@ -136,17 +118,17 @@ subtree-behind (caret l r) es c =
     ∙ ap (onInner map-a)
     (subtree-behind l (leftEdge r ∷ (later r ++ es)) (withOnes (suc (carets r)) c)
     ∙ ap (withDigit 𝟏) (subtree-behind r es c))
-    ∙ a-on-11 (lowPowers es c)
+    ∙ sym (a-on-11 (lowPowers es c))
 
 subtree-in : (l : Tree) (k : ℕ) (u : Address) (es : List ℕ) (c : Low) → LeafAt l k u
     → lowPowers (leftEdge l ∷ (later l ++ es)) (slot (suc k) k c) ≡ withDigit 𝟎 (withDigits u c)
-subtree-in leaf k [] es c h = rw h (lift-on-0 (powersMap es) c)
+subtree-in leaf k [] es c h = rw h (sym (lift-behind-0 (powersMap es) c))
 subtree-in leaf k (d ∷ u) es c h = absurd h
 subtree-in (caret l r) k [] es c h = absurd h
 subtree-in (caret l r) k (𝟎 ∷ u) es c h =
     more-carets l r es (slot (suc k) k c)
     ∙ ap (onInner map-a) (subtree-in l k u (leftEdge r ∷ (later r ++ es)) c h)
-    ∙ a-on-0 (withDigits u c)
+    ∙ sym (a-on-0 (withDigits u c))
 subtree-in (caret l r) k (𝟏 ∷ u) es c h =
     more-carets l r es (slot (suc k) k c)
     ∙ ap (λ (d : Low). onInner map-a (lowPowers (leftEdge l ∷ (later l ++ (leftEdge r ∷ (later r ++ es)))) d))
@@ -154,7 +136,7 @@ subtree-in (caret l r) k (𝟏 ∷ u) es c h =
     ∙ ap (onInner map-a)
     (subtree-behind l (leftEdge r ∷ (later r ++ es)) (slot (suc (h .0)) (h .0) c)
     ∙ ap (withDigit 𝟏) (subtree-in r (h .0) u es c (h .2)))
-    ∙ a-on-10 (withDigits u c)
+    ∙ sym (a-on-10 (withDigits u c))
 
 -- The powers with the exponents of a tree send slot k to leaf k.
 pub slot-to-leaf : (t : Tree) (k : ℕ) (u : Address) (c : Low) → LeafAt t k u

@@ -7,6 +7,7 @@ use mathlib.Core.List.{List, [], _∷_, _++_, append-assoc, append-nil}
 use Prim.Native.Nat.{ℕ, suc, _+_, _≤_}
 use native.Mathlib.Omega.{arith}
 use lib.ListN.{length, drop, length-append}
+use lib.Seq.{drop-at}
 use Rattle.group.specs.Points.{𝟎, 𝟏}
 use Rattle.trees.specs.Trees.{Tree, leaf, caret, carets, Address, Subtree}
 use Rattle.trees.specs.Shapes.{shape, shapeSize, Node, span, subtreeEnd}
@@ -55,14 +56,16 @@ bytes-at (caret l r) k (𝟏 ∷ u) x h g =
           (ap (λ (s : List ℕ). shape l ++ s) (b .whole) ∙ sym (append-assoc (shape l) (b .front) (shape x ++ b .back)));
     }
 
+-- Node k and its subtree in the shape.
 pub node-bytes : (t : Tree) (k : ℕ) (u : Address) (x : Tree) → Node t k u → Subtree t u x → NodeBytes t k x
 node-bytes t k u x h g = bytes-at t k u x (to-node t k u h) g
 
--- The subtree that starts at a byte ends where the count of open subtrees first falls to 0.
+-- The next 0 subtrees have no bytes.
 span-none : (s : List ℕ) → span s 0 ≡ 0
 span-none [] = refl
 span-none (b ∷ s) = refl
 
+-- The next n + 1 subtrees, a tree and n behind it.
 pub span-shape : (t : Tree) (n : ℕ) (s : List ℕ) → span (shape t ++ s) (suc n) ≡ length (shape t) + span s n
 span-shape leaf n s = omega arith
 span-shape (caret l r) n s =
@@ -74,10 +77,7 @@ span-shape (caret l r) n s =
       length-append (shape l) (shape r),
     )
 
-drop-front : (s x : List ℕ) (k : ℕ) → length s ≡ k → drop k (s ++ x) ≡ x
-drop-front [] x k e = rw (sym e) refl
-drop-front (n ∷ s) x k e = rw (sym e) (drop-front s x (length s) refl)
-
+-- The subtree of node k ends where subtreeEnd says, inside the shape.
 pub subtree-end : (t : Tree) (k : ℕ) (u : Address) (x : Tree) → Node t k u → Subtree t u x
     → (subtreeEnd (shape t) k ≡ k + shapeSize (carets x)) × (k + shapeSize (carets x) ≤ shapeSize (carets t))
 subtree-end t k u x h g =
@@ -85,7 +85,7 @@ subtree-end t k u x h g =
       omega (
         arith,
         ap (λ (s : List ℕ). span (drop k s) 1) (b .whole),
-        ap (λ (s : List ℕ). span s 1) (drop-front (b .front) (shape x ++ b .back) k (b .number)),
+        ap (λ (s : List ℕ). span s 1) (drop-at (b .front) (shape x ++ b .back) k (b .number)),
         span-shape x 0 (b .back),
         span-none (b .back),
         shape-length x,

@@ -7,27 +7,18 @@ use mathlib.Core.List.{[], _∷_, _++_}
 use mathlib.Core.Logic.{_⊎_, inl, inr, _↔_}
 use Prim.Native.Nat.{ℕ, zero, suc, _+_, _-_, _<_, _≤_}
 use native.Mathlib.Omega.{arith}
-use native.Mathlib.Decide.{decLe}
-use lib.ListN.{length, length-append}
+use lib.ListN.{length}
 use Rattle.lists.specs.Entries.{At}
-use Rattle.lists.proofs.Entries.{at-first, at-second, at-split}
+use Rattle.lists.proofs.Entries.{at-first, at-second, at-split, at-bound, at-exists}
 use Rattle.group.specs.Points.{𝟎, 𝟏}
 use Rattle.trees.specs.Trees.{Tree, leaf, caret, carets, Address, below, Subtree}
 use Rattle.trees.specs.Shapes.{shapeSize, nodes, Node}
-use Rattle.trees.proofs.Leaves.{below-length, to-below, of-below}
+use Rattle.trees.proofs.Leaves.{below-length, both-length, to-below, of-below}
 
 -- A tree with N carets has 2N + 1 nodes.
 pub nodes-length : (t : Tree) → length (nodes t) ≡ shapeSize (carets t)
 nodes-length leaf = refl
-nodes-length (caret l r) =
-    omega (
-      arith,
-      length-append (below 𝟎 (nodes l)) (below 𝟏 (nodes r)),
-      below-length 𝟎 (nodes l),
-      below-length 𝟏 (nodes r),
-      nodes-length l,
-      nodes-length r,
-    )
+nodes-length (caret l r) = omega (arith, both-length (nodes l) (nodes r), nodes-length l, nodes-length r)
 
 -- Node k is at the address u, by the sides of the carets.
 abbrev pub NodeAt : Tree → ℕ → Address → Type 0
@@ -36,7 +27,7 @@ NodeAt leaf k (d ∷ u) = ⊥
 NodeAt (caret l r) k (𝟎 ∷ u) = (j : ℕ) × (k ≡ suc j) × NodeAt l j u
 NodeAt (caret l r) k (𝟏 ∷ u) = (j : ℕ) × (k ≡ suc (shapeSize (carets l) + j)) × NodeAt r j u
 
--- NodeAt is entry k of the list of nodes.
+-- Entry k of the list of nodes is NodeAt, and the other way round.
 pub to-node : (t : Tree) (k : ℕ) (u : Address) → Node t k u → NodeAt t k u
 to-node leaf zero u h = subst (λ (w : Address). NodeAt leaf 0 w) h refl
 to-node leaf (suc k) u h = absurd h
@@ -69,29 +60,14 @@ of-node (caret l r) (suc k) (𝟏 ∷ u) h =
     (omega (arith, h .1, below-length 𝟎 (nodes l), nodes-length l))
     (to-below 𝟏 (nodes r) (h .0) u (of-node r (h .0) u (h .2)))
 
--- The nodes have the numbers below 2N + 1, and there is a node of each.
+-- The nodes have the numbers below 2N + 1, and each of these has a node.
 pub node-lt : (t : Tree) (k : ℕ) (u : Address) → NodeAt t k u → k < shapeSize (carets t)
-node-lt leaf k [] h = omega (arith, h)
-node-lt (caret l r) k [] h = omega (arith, h)
-node-lt leaf k (d ∷ u) h = absurd h
-node-lt (caret l r) k (𝟎 ∷ u) h = omega (arith, h .1, node-lt l (h .0) u (h .2))
-node-lt (caret l r) k (𝟏 ∷ u) h = omega (arith, h .1, node-lt r (h .0) u (h .2))
+node-lt t k u h = omega (arith, at-bound (nodes t) k u (of-node t k u h), nodes-length t)
 
 pub node-of : (t : Tree) (k : ℕ) → k < shapeSize (carets t) → (u : Address) × NodeAt t k u
-node-of leaf k h = ([], omega arith)
-node-of (caret l r) zero h = ([], refl)
-node-of (caret l r) (suc k) h =
-    go (decLe (suc k) (shapeSize (carets l))) (node-of l k) (node-of r (k - shapeSize (carets l)))
-  where
-    go : Dec (k < shapeSize (carets l)) → (k < shapeSize (carets l) → (u : Address) × NodeAt l k u)
-        → (k - shapeSize (carets l) < shapeSize (carets r) → (u : Address) × NodeAt r (k - shapeSize (carets l)) u)
-        → (u : Address) × NodeAt (caret l r) (suc k) u
-    go (yes c) left right =
-        let v = left c in
-        (𝟎 ∷ v .0, (k, refl, v .1))
-    go (no c) left right =
-        let v = right (omega arith) in
-        (𝟏 ∷ v .0, (k - shapeSize (carets l), omega arith, v .1))
+node-of t k h =
+    let x = at-exists (nodes t) k (omega (arith, nodes-length t)) in
+    (x .0, to-node t k (x .0) (x .1))
 
 -- A node of the subtree x of node k has a number in x and, behind k, one in the whole tree.
 node-outside : (t : Tree) (k : ℕ) (u : Address) (x : Tree) (i j : ℕ) (v : Address) → NodeAt t k u → Subtree t u x

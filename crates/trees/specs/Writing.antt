@@ -8,7 +8,7 @@ use Prim.Native.Nat.{ℕ, zero, suc, _+_}
 use lib.ListN.{length, replicate}
 use lib.Dec.{eqb, ltb}
 use lib.Seq.{sets}
-use Rattle.refusals.specs.Outcomes.{Outcome, accepted, refused, after, refusal}
+use Rattle.refusals.specs.Outcomes.{Outcome, accepted, refused, after, then, refusal}
 use Rattle.trees.specs.declared.Pairing.{Pairing}
 use Rattle.trees.specs.declared.Pairing.the-variants.{Carets, Refused, Unfit}
 use Rattle.trees.specs.Building.{treeOf}
@@ -29,17 +29,21 @@ pairingOf (Carets n) = accepted n
 pairingOf (Refused r) = refusal r
 pairingOf Unfit = refused 0 0
 
--- The number of carets, beside buffers of the lengths m and p: tables of another size or with more carets than a form
--- within the limits has first, then 7.
-abbrev pub pairCarets : (b a : List ℕ) (m p : ℕ) → Outcome ℕ
-pairCarets b a m p =
+-- The number of carets of two tables; tables of another size than `maxCarets`, or with more carets than a form within
+-- the limits has, are unfit.
+abbrev pub tableCarets : (b a : List ℕ) → Outcome ℕ
+tableCarets b a =
     cond (eqb (length b) maxCarets)
     (cond (eqb (length a) maxCarets)
-    (cond (ltb maxCarets (caretsOfSides b a)) (refused 0 0)
-    (cond (ltb m (shapeSize (caretsOfSides b a))) (refused 7 0)
-    (cond (ltb p (shapeSize (caretsOfSides b a))) (refused 7 0) (accepted (caretsOfSides b a)))))
+    (cond (ltb maxCarets (caretsOfSides b a)) (refused 0 0) (accepted (caretsOfSides b a)))
     (refused 0 0))
     (refused 0 0)
+
+-- The same beside buffers of the lengths m and p: then 7.
+abbrev pub pairCarets : (b a : List ℕ) (m p : ℕ) → Outcome ℕ
+pairCarets b a m p =
+    then (tableCarets b a) (λ n.
+    cond (ltb m (shapeSize n)) (refused 7 0) (cond (ltb p (shapeSize n)) (refused 7 0) (accepted n)))
 
 -- A buffer at exit: the shape of the tree with the exponents at its front, everything beyond unchanged.
 abbrev pub shapeAfter : Outcome ℕ → (es buffer : List ℕ) → List ℕ

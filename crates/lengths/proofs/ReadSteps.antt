@@ -1,0 +1,200 @@
+-- The steps of the reader of shapes: a node of an interior subtree, and the loop over its nodes.
+--     drop-node      the bytes from a node on: its byte, and the others
+--     node-opens, node-closes, node-inside   what one node does
+--     Amidst         the loop over the nodes of an interior subtree
+-- Assumes nothing.
+use mathlib.Core.Path.{_≡_, refl, sym, ap, _∙_, subst}
+use mathlib.Core.List.{List, [], _∷_}
+use Prim.Native.Nat.{ℕ, zero, suc, _+_, _-_, _<_, _≤_}
+use native.Mathlib.Numerals.{add-one}
+use native.Mathlib.Omega.{arith}
+use native.Mathlib.Decide.{decLt}
+use lib.ListN.{length, drop, getD, set, length-set, drop-of-length-le}
+use lib.Seq.{drop-cons}
+use Rattle.lists.specs.Writes.{Writing}
+use Rattle.lists.proofs.Writes.{write-start, write-more, writing-same}
+use Rattle.trees.specs.Pairs.{maxCarets}
+use Rattle.trees.specs.Shapes.{Exact}
+use Rattle.lengths.specs.declared.reader.Amid.{Amid}
+use Rattle.lengths.specs.Classes.{Class}
+use Rattle.lengths.specs.Reading.{insideAt, classesFrom, nextOnSide, pendingClasses}
+use Rattle.lengths.specs.Steps.{classByte, classBytes, leavesIn, afterDue, Readable, NodeReady, NodeRead}
+
+-- The shapes of some trees have a byte, and a leaf.
+exact-length : (s : List ℕ) (n : ℕ) → 0 < n → Exact s n → 0 < length s
+exact-length [] zero h x = absurd (omega arith)
+exact-length [] (suc n) h x = absurd x
+exact-length (b ∷ s) n h x = omega arith
+
+pub exact-leaves : (s : List ℕ) (n : ℕ) → 0 < n → Exact s n → 0 < leavesIn s
+exact-leaves [] zero h x = absurd (omega arith)
+exact-leaves [] (suc n) h x = absurd x
+exact-leaves (zero ∷ s) n h x = omega arith
+exact-leaves (suc zero ∷ s) zero h x = absurd x
+exact-leaves (suc zero ∷ s) (suc n) h x = exact-leaves s (suc (suc n)) (omega arith) x
+exact-leaves (suc (suc b) ∷ s) n h x = absurd x
+
+-- A node is there.
+pub exact-node : (s : List ℕ) (at n : ℕ) → 0 < n → Exact (drop at s) n → at < length s
+exact-node s at n h x = go (decLt at (length s))
+  where
+    go : Dec (at < length s) → at < length s
+    go (yes k) = k
+    go (no k) =
+        let behind : length s ≤ at = omega arith in
+        let none : drop at s ≡ [] = drop-of-length-le s behind in
+        absurd (omega (arith, exact-length (drop at s) n h x, ap length none))
+
+pub drop-node : (s : List ℕ) (at : ℕ) → at < length s → drop at s ≡ getD s at 0 ∷ drop (at + 1) s
+drop-node s at h = rw (add-one at) (drop-cons s at 0 h)
+
+-- A byte is 1 or 0.
+exact-zero : (b n : ℕ) (s : List ℕ) → Exact (b ∷ s) n → (b ≡ 1 → ⊥) → b ≡ 0
+exact-zero zero n s x h = refl
+exact-zero (suc zero) n s x h = absurd (h refl)
+exact-zero (suc (suc b)) n s x h = absurd x
+
+-- A caret opens a subtree more, a leaf closes one.
+exact-caret : (s : List ℕ) (n k : ℕ) → k ≡ suc n → Exact (1 ∷ s) n → Exact s k
+exact-caret s zero k e x = absurd x
+exact-caret s (suc n) k e x = subst (λ (j : ℕ). Exact s j) (sym e) x
+
+exact-leaf : (s : List ℕ) (n k : ℕ) → n ≡ suc k → Exact (0 ∷ s) n → Exact s k
+exact-leaf s zero k e x = absurd x
+exact-leaf s (suc n) k e x =
+    let same : n ≡ k = omega arith in
+    subst (λ (j : ℕ). Exact s j) same x
+
+pending-caret : (s : List ℕ) (o l : ℕ) → 0 < o → pendingClasses (1 ∷ s) o l ≡ pendingClasses s (o + 1) l
+unfolding classesFrom
+pending-caret s zero l h = absurd (omega arith)
+pending-caret s (suc o) l h = rw (add-one (suc o)) refl
+
+pending-last : (s : List ℕ) (l : ℕ) → pendingClasses (0 ∷ s) 1 l ≡ nextOnSide s l
+unfolding classesFrom
+pending-last s zero = refl
+pending-last s (suc zero) = refl
+pending-last s (suc (suc l)) = refl
+
+pending-leaf : (s : List ℕ) (o l : ℕ) → 1 < o
+    → pendingClasses (0 ∷ s) o l ≡ insideAt (getD s 0 0) ∷ pendingClasses s (o - 1) l
+unfolding classesFrom
+pending-leaf s zero l h = absurd (omega arith)
+pending-leaf s (suc zero) l h = absurd (omega arith)
+pending-leaf s (suc (suc o)) l h = let e : suc (suc o) - 1 ≡ suc o = omega arith in rw e refl
+
+due-some : (o caret : ℕ) → 0 < o → afterDue o caret ≡ caret
+due-some zero caret h = absurd (omega arith)
+due-some (suc o) caret h = refl
+
+-- What is left behind a caret, or behind a leaf.
+module _ {shape : List ℕ} {at trees caret : ℕ} {classes : List ℕ} (h : Readable shape at trees caret classes)
+    (some : 0 < trees) where
+  pub node-there : at < length shape
+  node-there = exact-node shape at trees some (h .exact)
+
+  node-is : (b : ℕ) → getD shape at 0 ≡ b → drop at shape ≡ b ∷ drop (at + 1) shape
+  node-is b e = drop-node shape at node-there ∙ ap (λ (x : ℕ). x ∷ drop (at + 1) shape) e
+
+  pub node-zero : (getD shape at 0 ≡ 1 → ⊥) → getD shape at 0 ≡ 0
+  node-zero not-one =
+      exact-zero (getD shape at 0) trees (drop (at + 1) shape)
+      (subst (λ (s : List ℕ). Exact s trees) (drop-node shape at node-there) (h .exact)) not-one
+
+  pub behind-caret : (k : ℕ) → getD shape at 0 ≡ 1 → k ≡ suc trees → Readable shape (at + 1) k caret classes
+  behind-caret k e n =
+      let same : leavesIn (drop at shape) ≡ leavesIn (drop (at + 1) shape) = ap leavesIn (node-is 1 e) in
+      record {
+        exact =
+            exact-caret (drop (at + 1) shape) trees k n
+            (subst (λ (s : List ℕ). Exact s trees) (node-is 1 e) (h .exact));
+        room = omega (arith, same, h .room);
+        small = omega (arith, same, h .small);
+      }
+
+  pub behind-leaf : (k : ℕ) (now : List ℕ) → getD shape at 0 ≡ 0 → trees ≡ suc k → length now ≡ length classes
+      → Readable shape (at + 1) k (suc caret) now
+  behind-leaf k now e n len =
+      let same : leavesIn (drop at shape) ≡ suc (leavesIn (drop (at + 1) shape)) = ap leavesIn (node-is 0 e) in
+      record {
+        exact =
+            exact-leaf (drop (at + 1) shape) trees k n
+            (subst (λ (s : List ℕ). Exact s trees) (node-is 0 e) (h .exact));
+        room = omega (arith, same, h .room);
+        small = omega (arith, same, h .small);
+      }
+
+-- One node of an interior subtree.
+module _ {shape : List ℕ} {at caret pending : ℕ} {classes : List ℕ} (r : NodeReady shape at caret pending classes) where
+  some-trees : (more : ℕ) → 0 < pending + suc more
+  some-trees more = omega arith
+
+  node-bytes : (b : ℕ) → getD shape at 0 ≡ b → drop at shape ≡ b ∷ drop (at + 1) shape
+  node-bytes b e = node-is (r .readable) (some-trees (r .more)) b e
+
+  -- The classes that are left are read off the bytes behind.
+  left-classes : (b : ℕ) → getD shape at 0 ≡ b → (l : ℕ) (cs : List Class)
+      → pendingClasses (b ∷ drop (at + 1) shape) pending l ≡ cs
+      → Writing (classBytes cs) classes caret (classBytes (pendingClasses (drop at shape) pending l)) classes caret
+  left-classes b e l cs same =
+      writing-same
+      (ap (λ (s : List ℕ). classBytes (pendingClasses s pending l)) (node-bytes b e) ∙ ap classBytes same)
+      (write-start (classBytes (pendingClasses (drop at shape) pending l)) classes caret)
+
+  -- A caret.
+  pub node-opens : (x : Amid) → getD shape at 0 ≡ 1 → x .pending ≡ pending + 1 → x .caret .0 ≡ caret
+      → NodeRead shape at caret pending classes classes x
+  node-opens x e ep ec = rw (ep, ec) (record {
+    writing = λ l.
+        left-classes 1 e l (pendingClasses (drop (at + 1) shape) (pending + 1) l)
+        (pending-caret (drop (at + 1) shape) pending l (r .some));
+    left = λ more h.
+        rw (due-some (pending + 1) caret (omega arith))
+        (behind-caret h (some-trees more) (pending + 1 + suc more) e (omega arith));
+  })
+
+  -- The last leaf of the subtree.
+  pub node-closes : (x : Amid) → getD shape at 0 ≡ 0 → pending ≡ 1 → x .pending ≡ 0 → x .caret .0 ≡ caret
+      → NodeRead shape at caret pending classes classes x
+  node-closes x e one ep ec = rw (ep, ec) (record {
+    writing = λ l.
+        left-classes 0 e l (nextOnSide (drop (at + 1) shape) l)
+        (ap (λ (o : ℕ). pendingClasses (0 ∷ drop (at + 1) shape) o l) one ∙ pending-last (drop (at + 1) shape) l);
+    left = λ more h. behind-leaf h (some-trees more) (0 + suc more) classes e (omega arith) refl;
+  })
+
+  -- A leaf before the last: the next caret is interior, and there is room for it.
+  module _ (e : getD shape at 0 ≡ 0) (many : 1 < pending) where
+    next-ready : Readable shape (at + 1) (pending - 1 + suc (r .more)) (suc caret) classes
+    next-ready = behind-leaf (r .readable) (some-trees (r .more)) (pending - 1 + suc (r .more)) classes e (omega arith) refl
+
+    next-leaf : 0 < leavesIn (drop (at + 1) shape)
+    next-leaf =
+        exact-leaves (drop (at + 1) shape) (pending - 1 + suc (r .more)) (omega arith) (next-ready .exact)
+
+    pub next-there : at + 1 < length shape
+    next-there = node-there next-ready (omega arith)
+
+    pub class-room : caret < length classes
+    class-room = omega (arith, next-ready .room, next-leaf)
+
+    pub class-small : suc caret ≤ maxCarets
+    class-small = omega (arith, next-ready .small, next-leaf)
+
+    pub node-inside : (x : Amid) (c : ℕ) → c ≡ classByte (insideAt (getD shape (at + 1) 0)) → x .pending ≡ pending - 1
+        → x .caret .0 ≡ caret + 1 → NodeRead shape at caret pending classes (set classes caret c) x
+    node-inside x c ec ep ek = rw (ep, ek) (record {
+      writing = λ l.
+          write-more (record { ends = refl; holds = ap (λ (b : ℕ). set classes caret b) ec })
+          (left-classes 0 e l
+          (insideAt (getD shape (at + 1) 0) ∷ pendingClasses (drop (at + 1) shape) (pending - 1) l)
+          (pending-leaf (drop (at + 1) shape) pending l many
+          ∙ ap (λ (b : ℕ). insideAt b ∷ pendingClasses (drop (at + 1) shape) (pending - 1) l) first-byte));
+      left = λ more h.
+          rw (due-some (pending - 1) (caret + 1) (omega arith), add-one caret)
+          (behind-leaf h (some-trees more) (pending - 1 + suc more) (set classes caret c) e (omega arith)
+          (length-set classes caret c));
+    })
+      where
+        first-byte : getD (drop (at + 1) shape) 0 0 ≡ getD shape (at + 1) 0
+        first-byte = ap (λ (s : List ℕ). getD s 0 0) (drop-node shape (at + 1) next-there)
