@@ -1,8 +1,20 @@
 -- Laws of caret kinds and lengths.
+
+-- the one reading of a tree, and the kinds of its carets
 pub mod ShapeClasses
-pub mod Weights
 pub mod Places
 pub mod LaterKinds
 pub mod CaretClasses
 pub mod CaretKinds
+-- weights
+pub mod Weights
+pub mod ConstantTable
+-- the steps of the functions
+pub mod ClassBytes
 pub mod ReadSteps
+pub mod ReadLoops
+pub mod Sides
+pub mod LeftEdge
+pub mod SumSteps
+pub mod ShapeTables
+pub mod PairLengths

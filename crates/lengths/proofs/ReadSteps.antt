@@ -1,7 +1,6 @@
--- The steps of the reader of shapes: a node of an interior subtree, and the loop over its nodes.
+-- The steps of the reader of shapes: one node of an interior subtree.
 --     drop-node      the bytes from a node on: its byte, and the others
 --     node-opens, node-closes, node-inside   what one node does
---     Amidst         the loop over the nodes of an interior subtree
 -- Assumes nothing.
 use mathlib.Core.Path.{_≡_, refl, sym, ap, _∙_, subst}
 use mathlib.Core.List.{List, [], _∷_}
@@ -20,19 +19,20 @@ use Rattle.lengths.specs.Classes.{Class}
 use Rattle.lengths.specs.Reading.{insideAt, classesFrom, nextOnSide, pendingClasses}
 use Rattle.lengths.specs.Steps.{classByte, classBytes, leavesIn, afterDue, Readable, NodeReady, NodeRead}
 
--- The shapes of some trees have a byte, and a leaf.
+-- The shapes of n trees have n leaves or more, and a byte.
+pub exact-leaves : (s : List ℕ) (n : ℕ) → Exact s n → n ≤ leavesIn s
+exact-leaves [] zero x = omega arith
+exact-leaves [] (suc n) x = absurd x
+exact-leaves (zero ∷ s) zero x = absurd x
+exact-leaves (zero ∷ s) (suc n) x = omega (arith, exact-leaves s n x)
+exact-leaves (suc zero ∷ s) zero x = absurd x
+exact-leaves (suc zero ∷ s) (suc n) x = omega (arith, exact-leaves s (suc (suc n)) x)
+exact-leaves (suc (suc b) ∷ s) n x = absurd x
+
 exact-length : (s : List ℕ) (n : ℕ) → 0 < n → Exact s n → 0 < length s
 exact-length [] zero h x = absurd (omega arith)
 exact-length [] (suc n) h x = absurd x
 exact-length (b ∷ s) n h x = omega arith
-
-pub exact-leaves : (s : List ℕ) (n : ℕ) → 0 < n → Exact s n → 0 < leavesIn s
-exact-leaves [] zero h x = absurd (omega arith)
-exact-leaves [] (suc n) h x = absurd x
-exact-leaves (zero ∷ s) n h x = omega arith
-exact-leaves (suc zero ∷ s) zero h x = absurd x
-exact-leaves (suc zero ∷ s) (suc n) h x = exact-leaves s (suc (suc n)) (omega arith) x
-exact-leaves (suc (suc b) ∷ s) n h x = absurd x
 
 -- A node is there.
 pub exact-node : (s : List ℕ) (at n : ℕ) → 0 < n → Exact (drop at s) n → at < length s
@@ -49,13 +49,13 @@ pub drop-node : (s : List ℕ) (at : ℕ) → at < length s → drop at s ≡ ge
 drop-node s at h = rw (add-one at) (drop-cons s at 0 h)
 
 -- A byte is 1 or 0.
-exact-zero : (b n : ℕ) (s : List ℕ) → Exact (b ∷ s) n → (b ≡ 1 → ⊥) → b ≡ 0
+pub exact-zero : (b n : ℕ) (s : List ℕ) → Exact (b ∷ s) n → (b ≡ 1 → ⊥) → b ≡ 0
 exact-zero zero n s x h = refl
 exact-zero (suc zero) n s x h = absurd (h refl)
 exact-zero (suc (suc b)) n s x h = absurd x
 
 -- A caret opens a subtree more, a leaf closes one.
-exact-caret : (s : List ℕ) (n k : ℕ) → k ≡ suc n → Exact (1 ∷ s) n → Exact s k
+pub exact-caret : (s : List ℕ) (n k : ℕ) → k ≡ suc n → Exact (1 ∷ s) n → Exact s k
 exact-caret s zero k e x = absurd x
 exact-caret s (suc n) k e x = subst (λ (j : ℕ). Exact s j) (sym e) x
 
@@ -83,9 +83,17 @@ pending-leaf s zero l h = absurd (omega arith)
 pending-leaf s (suc zero) l h = absurd (omega arith)
 pending-leaf s (suc (suc o)) l h = let e : suc (suc o) - 1 ≡ suc o = omega arith in rw e refl
 
-due-some : (o caret : ℕ) → 0 < o → afterDue o caret ≡ caret
+pub due-some : (o caret : ℕ) → 0 < o → afterDue o caret ≡ caret
 due-some zero caret h = absurd (omega arith)
 due-some (suc o) caret h = refl
+
+two-of : (o : ℕ) → 0 < o → (o ≡ 1 → ⊥) → 1 < o
+two-of zero h f = absurd (omega arith)
+two-of (suc zero) h f = absurd (f refl)
+two-of (suc (suc o)) h f = omega arith
+
+pub two-pending : {o : ℕ} → 0 < o → (o ≡ 1 → ⊥) → 1 < o
+two-pending {o} h f = two-of o h f
 
 -- What is left behind a caret, or behind a leaf.
 module _ {shape : List ℕ} {at trees caret : ℕ} {classes : List ℕ} (h : Readable shape at trees caret classes)
@@ -93,7 +101,7 @@ module _ {shape : List ℕ} {at trees caret : ℕ} {classes : List ℕ} (h : Rea
   pub node-there : at < length shape
   node-there = exact-node shape at trees some (h .exact)
 
-  node-is : (b : ℕ) → getD shape at 0 ≡ b → drop at shape ≡ b ∷ drop (at + 1) shape
+  pub node-is : (b : ℕ) → getD shape at 0 ≡ b → drop at shape ≡ b ∷ drop (at + 1) shape
   node-is b e = drop-node shape at node-there ∙ ap (λ (x : ℕ). x ∷ drop (at + 1) shape) e
 
   pub node-zero : (getD shape at 0 ≡ 1 → ⊥) → getD shape at 0 ≡ 0
@@ -131,6 +139,11 @@ module _ {shape : List ℕ} {at caret pending : ℕ} {classes : List ℕ} (r : N
 
   node-bytes : (b : ℕ) → getD shape at 0 ≡ b → drop at shape ≡ b ∷ drop (at + 1) shape
   node-bytes b e = node-is (r .readable) (some-trees (r .more)) b e
+
+  -- The subtrees to come are fewer than the leaves of the largest tree.
+  pub pending-bound : pending ≤ maxCarets
+  pending-bound =
+      omega (arith, exact-leaves (drop at shape) (pending + suc (r .more)) (r .readable .exact), r .readable .small)
 
   -- The classes that are left are read off the bytes behind.
   left-classes : (b : ℕ) → getD shape at 0 ≡ b → (l : ℕ) (cs : List Class)
@@ -170,7 +183,7 @@ module _ {shape : List ℕ} {at caret pending : ℕ} {classes : List ℕ} (r : N
 
     next-leaf : 0 < leavesIn (drop (at + 1) shape)
     next-leaf =
-        exact-leaves (drop (at + 1) shape) (pending - 1 + suc (r .more)) (omega arith) (next-ready .exact)
+        omega (arith, exact-leaves (drop (at + 1) shape) (pending - 1 + suc (r .more)) (next-ready .exact))
 
     pub next-there : at + 1 < length shape
     next-there = node-there next-ready (omega arith)
@@ -185,7 +198,8 @@ module _ {shape : List ℕ} {at caret pending : ℕ} {classes : List ℕ} (r : N
         → x .caret .0 ≡ caret + 1 → NodeRead shape at caret pending classes (set classes caret c) x
     node-inside x c ec ep ek = rw (ep, ek) (record {
       writing = λ l.
-          write-more (record { ends = refl; holds = ap (λ (b : ℕ). set classes caret b) ec })
+          write-more {a = classByte (insideAt (getD shape (at + 1) 0)) ∷ []}
+          (record { ends = refl; holds = ap (λ (b : ℕ). set classes caret b) ec })
           (left-classes 0 e l
           (insideAt (getD shape (at + 1) 0) ∷ pendingClasses (drop (at + 1) shape) (pending - 1) l)
           (pending-leaf (drop (at + 1) shape) pending l many

@@ -1,12 +1,11 @@
 -- The steps of the reader of shapes and of the sum of weights, for the functions inside this crate.
 --     classByte      a class as it is kept in a table        kindNamed   the kind that a case of `CaretKind` names
+--     table          Fordham's table as the code has it
 --     Readable       what is left of a shape, and room for the classes of the carets to come
 -- Assumes nothing.
-use mathlib.Core.Path.{_≡_}
-use mathlib.Core.Bool.{Bool}
 use mathlib.Core.List.{List, [], _∷_}
 use Prim.Native.Nat.{ℕ, zero, suc, _+_, _≤_, _<_}
-use lib.ListN.{length, take, drop}
+use lib.ListN.{length, take, drop, getD}
 use Rattle.lists.specs.Writes.{Writing}
 use Rattle.trees.specs.Pairs.{maxCarets}
 use Rattle.trees.specs.Shapes.{shapeSize, Exact}
@@ -57,6 +56,20 @@ indexOf Named.RI = 2
 indexOf Named.LL = 3
 indexOf Named.I0 = 4
 indexOf Named.IR = 5
+
+-- The constant table of the code, and its entry in a row and a column.
+abbrev pub table : List (List ℕ)
+table =
+    (0 ∷ 2 ∷ 2 ∷ 1 ∷ 1 ∷ 3 ∷ [])
+    ∷ (2 ∷ 2 ∷ 2 ∷ 1 ∷ 1 ∷ 3 ∷ [])
+    ∷ (2 ∷ 2 ∷ 2 ∷ 1 ∷ 3 ∷ 3 ∷ [])
+    ∷ (1 ∷ 1 ∷ 1 ∷ 2 ∷ 2 ∷ 2 ∷ [])
+    ∷ (1 ∷ 1 ∷ 3 ∷ 2 ∷ 2 ∷ 4 ∷ [])
+    ∷ (3 ∷ 3 ∷ 3 ∷ 2 ∷ 4 ∷ 4 ∷ [])
+    ∷ []
+
+abbrev pub entry : (row column : ℕ) → ℕ
+entry i j = getD (getD table i []) j 0
 
 -- What is behind the caret before one of a class.
 abbrev pub seen : Class → Behind → Behind
@@ -134,5 +147,3 @@ pub record PairShaped (minus plus : List ℕ) (n : ℕ) : Type 0 where
   pub plus-room : shapeSize n ≤ length plus
   pub minus-exact : Exact (take (shapeSize n) minus) 1
   pub plus-exact : Exact (take (shapeSize n) plus) 1
-  pub minus-leaves : leavesIn (take (shapeSize n) minus) ≡ suc n
-  pub plus-leaves : leavesIn (take (shapeSize n) plus) ≡ suc n

@@ -11,7 +11,7 @@ use native.Mathlib.Nat.{add-zero, add-suc, suc-add, le-add-right}
 use native.Mathlib.Omega.{arith}
 use lib.ListN.{take, drop, length, set, replicate, length-append, length-set, length-drop, length-replicate}
 use lib.ListN.{replicate-append-replicate, take-append-drop, drop-of-length-le}
-use lib.Seq.{take-all, sets, length-sets, drop-set-add, take-set-le}
+use lib.Seq.{take-all, take-at, sets, sets-eq, length-sets, drop-set-add, take-set-le}
 use Rattle.lists.specs.Writes.{Wrote, Writing}
 
 pub sets-append : (a l : List ℕ) (i : ℕ) (b : List ℕ) → sets (sets l i a) (i + length a) b ≡ sets l i (a ++ b)
@@ -19,6 +19,11 @@ sets-append [] l i b = ap (λ (k : ℕ). sets l k b) (add-zero i)
 sets-append (x ∷ a) l i b =
     ap (λ (k : ℕ). sets (sets (set l i x) (suc i) a) k b) (add-suc i (length a) ∙ sym (suc-add i (length a)))
     ∙ sets-append a (set l i x) (suc i) b
+
+-- What was written at the front stands there.
+pub sets-front : (a l : List ℕ) (n : ℕ) → length a ≡ n → n ≤ length l → take n (sets l 0 a) ≡ a
+sets-front a l n e h =
+    ap (take n) (sets-eq a l 0 (omega arith)) ∙ take-at a (drop (0 + length a) l) n e
 
 -- One element more of a run of equal elements.
 pub sets-replicate : (l : List ℕ) (i k x : ℕ)
@@ -97,6 +102,10 @@ writing-same {a} {b} {s} {bytes} {entry} {i} {at} e h = record {
   ends = ap (λ (l : List ℕ). i + length l) (sym e) ∙ h .ends;
   holds = ap (λ (l : List ℕ). sets s i l) (sym e) ∙ h .holds;
 }
+
+-- Amid a run that is itself amid a run.
+pub writing-then : {a b c s t u : List ℕ} {i j k : ℕ} → Writing a u k b t j → Writing b t j c s i → Writing a u k c s i
+writing-then v w = record { ends = v .ends ∙ w .ends; holds = v .holds ∙ w .holds }
 
 pub write-done : {s bytes entry : List ℕ} {i at : ℕ} → Writing [] s i bytes entry at → Wrote bytes entry at s i
 write-done {s} {bytes} {entry} {i} {at} h = record { ends = omega (arith, h .ends); holds = h .holds }

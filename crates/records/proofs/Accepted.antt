@@ -85,18 +85,29 @@ formRead-canonical s n =
       trimmed = upTo-trimmed (suc limit) (exponentAt (bPowers s)) (exponentAt (aPowers s));
     }
 
--- What is accepted is the record of the form that is read, which is reduced and within the limits.
-pub decode-accepts : (s : List ℕ) (f : Form) → Bytes s → decode s ≡ accepted f
-    → (s ≡ encode f) × Canonical f × Within f
-decode-accepts s f bytes h = read (reads s)
+-- A form that is accepted is reduced and within the limits.
+pub decode-form : (s : List ℕ) (f : Form) → decode s ≡ accepted f → Canonical f × Within f
+decode-form s f h = read (reads s)
   where
-    read : Reads s → (s ≡ encode f) × Canonical f × Within f
+    read : Reads s → Canonical f × Within f
     read (unframed q e) = absurd (accepted-refused (sym h ∙ e))
     read (faulty p q n v e) = absurd (accepted-refused (sym h ∙ e))
     read (unreduced i r b e) = absurd (accepted-refused (sym h ∙ e))
     read (readable r n e) =
-        subst (λ (g : Form). (s ≡ encode g) × Canonical g × Within g) (accepted-same (sym e ∙ h))
-        (encode-formRead s bytes r, formRead-canonical s n, formRead-within s r)
+        subst (λ (g : Form). Canonical g × Within g) (accepted-same (sym e ∙ h))
+        (formRead-canonical s n, formRead-within s r)
+
+-- What is accepted is the record of the form that is read, which is reduced and within the limits.
+pub decode-accepts : (s : List ℕ) (f : Form) → Bytes s → decode s ≡ accepted f
+    → (s ≡ encode f) × Canonical f × Within f
+decode-accepts s f bytes h = (read (reads s), decode-form s f h .0, decode-form s f h .1)
+  where
+    read : Reads s → s ≡ encode f
+    read (unframed q e) = absurd (accepted-refused (sym h ∙ e))
+    read (faulty p q n v e) = absurd (accepted-refused (sym h ∙ e))
+    read (unreduced i r b e) = absurd (accepted-refused (sym h ∙ e))
+    read (readable r n e) =
+        subst (λ (g : Form). s ≡ encode g) (accepted-same (sym e ∙ h)) (encode-formRead s bytes r)
 
 pub accepted↔encoded : (s : List ℕ) (f : Form) → Bytes s
     → (decode s ≡ accepted f) ↔ ((s ≡ encode f) × Canonical f × Within f)

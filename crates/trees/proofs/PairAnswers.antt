@@ -1,11 +1,13 @@
 -- The answers of the pair writer, case by case. Assumes nothing.
 use mathlib.Core.Path.{_≡_, refl, ap, _∙_}
+use mathlib.Core.Bool.{Bool, true, false}
 use mathlib.Core.List.{List}
 use Prim.Native.Nat.{ℕ, _<_, _≤_}
 use native.Mathlib.Omega.{arith}
 use lib.ListN.{length}
 use lib.Seq.{sets}
-use borrow.Author.Tests.{lt-ltb, le-ltb, eq-eqb, ne-eqb}
+use lib.Dec.{eqb, ltb}
+use borrow.Author.Tests.{lt-ltb, le-ltb, eq-eqb, ne-eqb, ltb-false}
 use Rattle.refusals.specs.Outcomes.{accepted, refused}
 use Rattle.refusals.specs.declared.Refusal.the-variants.{ShortBuffer}
 use Rattle.trees.specs.declared.Pairing.{Pairing}
@@ -13,7 +15,7 @@ use Rattle.trees.specs.declared.Pairing.the-variants.{Carets, Refused, U
 use Rattle.trees.specs.Building.{needed, treeOf}
 use Rattle.trees.specs.Pairs.{caretsOfSides, maxCarets}
 use Rattle.trees.specs.Shapes.{shape, shapeSize}
-use Rattle.trees.specs.Writing.{pairingOf, pairCarets, WrotePair}
+use Rattle.trees.specs.Writing.{pairingOf, tableCarets, pairCarets, WrotePair}
 use Rattle.trees.specs.Steps.{Fits}
 use Rattle.trees.proofs.Needed.{larger-left, larger-right}
 
@@ -101,3 +103,30 @@ module _ {b a m p : List ℕ} {n : ℕ} (c : Counts b a n) where
         t-minus = rw e (em ∙ ap (λ (k : ℕ). sets m 0 (shape (treeOf k a))) (c .carets));
         t-plus = rw e (ep ∙ ap (λ (k : ℕ). sets p 0 (shape (treeOf k b))) (c .carets));
       }
+
+-- Two tables are unfit, or need no more carets than the largest tree has.
+pub data Judged (b a : List ℕ) : Type 0 where
+  unfit : tableCarets b a ≡ refused 0 0 → Judged b a
+  fit : tableCarets b a ≡ accepted (caretsOfSides b a) → caretsOfSides b a ≤ maxCarets → Judged b a
+
+pub tables-judged : (b a : List ℕ) → Judged b a
+tables-judged b a =
+    go (eqb (length b) maxCarets) (eqb (length a) maxCarets) (ltb maxCarets (caretsOfSides b a)) refl refl refl
+  where
+    go : (x y z : Bool) → eqb (length b) maxCarets ≡ x → eqb (length a) maxCarets ≡ y
+        → ltb maxCarets (caretsOfSides b a) ≡ z → Judged b a
+    go false y z eb ea e = unfit (rw eb refl)
+    go true false z eb ea e = unfit (rw (eb, ea) refl)
+    go true true true eb ea e = unfit (rw (eb, ea, e) refl)
+    go true true false eb ea e =
+        fit (rw (eb, ea, e) refl) (ltb-false maxCarets (caretsOfSides b a) e)
+
+-- Buffers for the largest tree are never too short.
+pub large-buffers : (b a : List ℕ) (m : ℕ) → shapeSize maxCarets ≤ m → pairCarets b a m m ≡ tableCarets b a
+large-buffers b a m h = go (tables-judged b a)
+  where
+    go : Judged b a → pairCarets b a m m ≡ tableCarets b a
+    go (unfit e) = rw e refl
+    go (fit e few) =
+        let long : shapeSize (caretsOfSides b a) ≤ m = omega arith in
+        rw e (simp (le-ltb _ _ long))

@@ -1,61 +1,50 @@
+-- `read_node` meets its contract: a caret opens, a leaf closes. Assumes nothing.
+use mathlib.Core.Path.{refl}
+use native.Mathlib.Omega.{arith}
 use borrow.Author.Needs.{needs}
+use Rattle.lengths.proofs.ReadSteps.{node-there, node-zero, pending-bound, two-pending, node-opens, node-closes}
+use Rattle.lengths.proofs.ReadSteps.{next-there, class-room, node-inside}
 use Rattle.lengths.proofs.reader.read_node.Statement.{statement}
 use Rattle.lengths.proofs.reader.read_node.Tie as tie
-use Rattle.lengths.proofs.reader.read_node.Reads as reads
-use Rattle.lengths.proofs.reader.read_node.Lts as lts
-use Rattle.lengths.proofs.reader.inside.Reads as inside-reads
 
--- src/reader.rt:52:8
 shared-slice-read-if1 : tie.Need-shared-slice-read-if1
-shared-slice-read-if1 c = ?
+shared-slice-read-if1 c = node-there (c .before .before .before .pre .readable) (omega arith)
 
--- src/reader.rt:55:22
 add-t10 : tie.Need-add-t10
-add-t10 c = ?
+add-t10 c = omega (arith, pending-bound (c .before .before .before .before .pre))
 
--- src/reader.rt:53:9
 returns : tie.Need-returns
-returns c = ?
+returns c = node-opens (c .before .before .before .before .pre) _ (c .if1 .taken) refl refl
 
--- src/reader.rt:59:9
 returns-2 : tie.Need-returns-2
-returns-2 c = ?
+returns-2 c = node-closes (c .before .before .before .before .before .pre) _ (node-zero (c .before .before .before .before .before .pre .readable) (omega arith) (c .before .if1 .left)) (c .if2 .taken) refl refl
 
--- src/reader.rt:61:13
 cast-k : tie.Need-cast-k
 cast-k c = search needs
 
--- src/reader.rt:62:31
 add-inside : tie.Need-add-inside
-add-inside c = ?
+add-inside c = omega (arith, next-there (c .before .before .before .before .before .before .pre) (node-zero (c .before .before .before .before .before .before .pre .readable) (omega arith) (c .before .before .if1 .left)) (two-pending (c .before .before .before .before .before .before .pre .some) (c .before .if2 .left)), c .before .before .before .before .before .before .good)
 
--- src/reader.rt:62:25
 shared-slice-read-inside : tie.Need-shared-slice-read-inside
-shared-slice-read-inside c = ?
+shared-slice-read-inside c = next-there (c .before .before .before .before .before .before .before .pre) (node-zero (c .before .before .before .before .before .before .before .pre .readable) (omega arith) (c .before .before .before .if1 .left)) (two-pending (c .before .before .before .before .before .before .before .pre .some) (c .before .before .if2 .left))
 
--- src/reader.rt:62:18
 inside-requires : tie.Need-inside-requires
 inside-requires c κs = search needs
 
--- src/reader.rt:62:5
 slice-write-classes : tie.Need-slice-write-classes
-slice-write-classes c = ?
+slice-write-classes c = class-room (c .before .before .before .before .before .before .before .before .pre) (node-zero (c .before .before .before .before .before .before .before .before .pre .readable) (omega arith) (c .before .before .before .before .if1 .left)) (two-pending (c .before .before .before .before .before .before .before .before .pre .some) (c .before .before .before .if2 .left))
 
--- src/reader.rt:64:28
 add-t15 : tie.Need-add-t15
 add-t15 c = search needs
 
--- src/reader.rt:65:18
 sub-t11 : tie.Need-sub-t11
 sub-t11 c = search needs
 
--- src/reader.rt:42:1
 same-length : tie.Need-same-length
 same-length c = search needs
 
--- src/reader.rt:42:1
 returns-3 : tie.Need-returns-3
-returns-3 c = ?
+returns-3 c = node-inside (c .before .before .before .before .before .before .before .before .before .pre) (node-zero (c .before .before .before .before .before .before .before .before .before .pre .readable) (omega arith) (c .before .before .before .before .before .if1 .left)) (two-pending (c .before .before .before .before .before .before .before .before .before .pre .some) (c .before .before .before .before .if2 .left)) _ _ (c .before .inside .ensures) refl refl
 
 pub read-node-spec : {M : Type 1} → statement M
 read-node-spec =

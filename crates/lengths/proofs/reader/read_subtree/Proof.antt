@@ -1,42 +1,49 @@
+-- `read_subtree` meets its contract: the nodes of the subtree are read one by one. Assumes nothing.
+use mathlib.Core.Path.{refl}
+use Prim.Native.Nat.{_-_}
+use native.Mathlib.Omega.{arith}
+use lib.ListN.{length}
+use Rattle.lists.proofs.Writes.{writing-length}
+use Rattle.lengths.proofs.ReadSteps.{node-there}
+use Rattle.lengths.proofs.ReadLoops.{Amidst, amidst-start, amidst-ready, amidst-more, amidst-done}
 use Rattle.lengths.proofs.reader.read_subtree.Statement.{statement}
 use Rattle.lengths.proofs.reader.read_subtree.Tie as tie
-use Rattle.lengths.proofs.reader.read_subtree.Reads as reads
-use Rattle.lengths.proofs.reader.read_subtree.Lts as lts
-use Rattle.lengths.proofs.reader.read_node.Reads as read-node-reads
 
 abbrev Inv-loop : tie.InvT-loop
-Inv-loop shape at classes₀ p₀ k₀ pending₀ classes p k pending = ?
+Inv-loop shape at classes₀ p₀ k₀ pending₀ classes p k pending = Amidst shape at k₀ classes₀ p k pending classes
 
 abbrev μ-loop : tie.MeasureT-loop
-μ-loop shape at classes₀ p₀ k₀ pending₀ classes p k pending = ?
+μ-loop shape at classes₀ p₀ k₀ pending₀ classes p k pending = length shape - p
 
--- src/reader.rt:77:5
 loop-holds : tie.Need-loop-holds Inv-loop μ-loop
-loop-holds c = ?
+loop-holds c = amidst-start _ _ _ _
 
--- src/reader.rt:78:13
 read-node-requires : tie.Need-read-node-requires Inv-loop μ-loop
-read-node-requires c κs = ?
+read-node-requires c κs = amidst-ready (c .before .before .loop .inv) (c .before .before .before .before .before .pre) (c .before .loop-test .taken)
 
--- src/reader.rt:81:9
 add-p : tie.Need-add-p Inv-loop μ-loop
-add-p c = ?
+add-p c =
+    omega (
+      arith,
+      node-there (amidst-ready (c .before .before .before .before .before .loop .inv) (c .before .before .before .before .before .before .before .before .pre) (c .before .before .before .before .loop-test .taken) .readable) (omega arith),
+      c .before .before .before .before .before .before .before .before .good,
+    )
 
--- src/reader.rt:77:5
 loop-less : tie.Need-loop-less Inv-loop μ-loop
-loop-less c = ?
+loop-less c =
+    omega (
+      arith,
+      node-there (amidst-ready (c .before .before .before .before .before .loop .inv) (c .before .before .before .before .before .before .before .before .pre) (c .before .before .before .before .loop-test .taken) .readable) (omega arith),
+    )
 
--- src/reader.rt:77:5
 loop-again : tie.Need-loop-again Inv-loop μ-loop
-loop-again c = ?
+loop-again c = amidst-more (c .before .before .before .before .before .loop .inv) (c .before .before .before .before .loop-test .taken) (c .before .before .read-node .ensures)
 
--- src/reader.rt:70:1
 same-length : tie.Need-same-length Inv-loop μ-loop
-same-length c = ?
+same-length c = writing-length (c .before .loop .inv .writing 0)
 
--- src/reader.rt:70:1
 returns : tie.Need-returns Inv-loop μ-loop
-returns c = ?
+returns c = amidst-done (c .before .loop .inv) (omega arith) refl refl
 
 pub read-subtree-spec : {M : Type 1} → statement M
 read-subtree-spec =

@@ -1,0 +1,86 @@
+-- The shape of a tree at the front of a buffer: its leaves, and the table of the classes of its carets.
+--     shape-readable   the reader may begin             table-classes   the table holds the classes of the shape
+--     shapes-sum       the sum over two tables is that over two shapes
+-- Assumes nothing.
+use mathlib.Core.Path.{_≡_, refl, sym, ap, ap₂, _∙_}
+use mathlib.Core.List.{List, [], _∷_, _++_}
+use Prim.Native.Nat.{ℕ, zero, suc, _+_, _≤_}
+use native.Mathlib.Omega.{arith}
+use lib.ListN.{length, take}
+use lib.Seq.{length-take-le, sets}
+use Rattle.lists.proofs.Writes.{sets-front}
+use Rattle.trees.specs.Trees.{Tree, leaf, caret, carets}
+use Rattle.trees.specs.Pairs.{maxCarets}
+use Rattle.trees.specs.Shapes.{shape, shapeSize, Exact, readShape}
+use Rattle.trees.proofs.Shapes.{shape-length, exact-shape}
+use Rattle.lengths.specs.Classes.{Class}
+use Rattle.lengths.specs.Kinds.{kindsOf}
+use Rattle.lengths.specs.Weights.{weights}
+use Rattle.lengths.specs.Reading.{shapeClasses}
+use Rattle.lengths.specs.Steps.{classBytes, classesOf, leavesIn, Readable, PairShaped}
+use Rattle.lengths.proofs.ShapeClasses.{shape-classes, classes-length}
+use Rattle.lengths.proofs.ClassBytes.{classes-read, bytes-length}
+
+-- A tree has one leaf more than carets.
+leaves-append : (s t : List ℕ) → leavesIn (s ++ t) ≡ leavesIn s + leavesIn t
+leaves-append [] t = omega arith
+leaves-append (zero ∷ s) t = omega (arith, leaves-append s t)
+leaves-append (suc b ∷ s) t = leaves-append s t
+
+pub leaves-shape : (t : Tree) → leavesIn (shape t) ≡ suc (carets t)
+leaves-shape leaf = refl
+leaves-shape (caret l r) = omega (arith, leaves-append (shape l) (shape r), leaves-shape l, leaves-shape r)
+
+-- A shape of n carets at the front of a buffer.
+module _ (buffer : List ℕ) (n : ℕ) (room : shapeSize n ≤ length buffer)
+    (exact : Exact (take (shapeSize n) buffer) 1) where
+  abbrev bytes : List ℕ
+  bytes = take (shapeSize n) buffer
+
+  same : shape (readShape bytes) ≡ bytes
+  same = exact-shape bytes .0 exact
+
+  carets-count : carets (readShape bytes) ≡ n
+  carets-count =
+      omega (arith, shape-length (readShape bytes), ap length same, length-take-le (shapeSize n) buffer room)
+
+  leaves-count : leavesIn bytes ≡ suc n
+  leaves-count = sym (ap leavesIn same) ∙ leaves-shape (readShape bytes) ∙ ap suc carets-count
+
+  classes-count : length (shapeClasses bytes) ≡ n
+  classes-count =
+      sym (ap (λ (s : List ℕ). length (shapeClasses s)) same)
+      ∙ ap length (shape-classes (readShape bytes))
+      ∙ classes-length (readShape bytes)
+      ∙ carets-count
+
+  -- The reader may begin.
+  pub shape-readable : {classes : List ℕ} → n ≤ maxCarets → n ≤ length classes → Readable bytes 0 1 0 classes
+  shape-readable few h = record {
+    exact = exact;
+    room = omega (arith, leaves-count);
+    small = omega (arith, leaves-count);
+  }
+
+  -- The table holds the classes.
+  pub table-classes : (entry exit : List ℕ) → n ≤ length entry → exit ≡ sets entry 0 (classBytes (shapeClasses bytes))
+      → classesOf (take n exit) ≡ shapeClasses bytes
+  table-classes entry exit h e =
+      let cs = classBytes (shapeClasses bytes) in
+      let size : length cs ≡ n = bytes-length (shapeClasses bytes) ∙ classes-count in
+      ap (λ (l : List ℕ). classesOf (take n l)) e
+      ∙ ap classesOf (sets-front cs entry n size h)
+      ∙ classes-read (shapeClasses bytes)
+
+-- The sum over the tables of a pair is that over its shapes.
+pub shapes-sum : {minus plus : List ℕ} {n : ℕ} → PairShaped minus plus n → (entry : List ℕ) → n ≤ length entry
+    → {minus′ plus′ : List ℕ} {r : ℕ}
+    → minus′ ≡ sets entry 0 (classBytes (shapeClasses (take (shapeSize n) minus)))
+    → plus′ ≡ sets entry 0 (classBytes (shapeClasses (take (shapeSize n) plus)))
+    → r ≡ weights (kindsOf (classesOf (take n minus′))) (kindsOf (classesOf (take n plus′)))
+    → r ≡ weights (kindsOf (shapeClasses (take (shapeSize n) minus))) (kindsOf (shapeClasses (take (shapeSize n) plus)))
+shapes-sum {minus} {plus} {n} h entry room {minus′} {plus′} em ep e =
+    e
+    ∙ ap₂ (λ (cs ds : List Class). weights (kindsOf cs) (kindsOf ds))
+    (table-classes minus n (h .minus-room) (h .minus-exact) entry minus′ room em)
+    (table-classes plus n (h .plus-room) (h .plus-exact) entry plus′ room ep)

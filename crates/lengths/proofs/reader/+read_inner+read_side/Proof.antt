@@ -1,0 +1,274 @@
+-- `read_side` and `read_inner` meet their contracts, in one proof of their cycle of calls: the nodes that are left fall
+-- at each call. Assumes nothing.
+use mathlib.Core.Path.{sym, ap, _∙_}
+use mathlib.Core.List.{List}
+use native.Mathlib.Omega.{arith}
+use lib.ListN.{length, drop, length-set}
+use lib.Seq.{sets}
+use borrow.Author.Needs.{needs}
+use Rattle.lengths.specs.Classes.{Class}
+use Rattle.lengths.specs.Steps.{classBytes}
+use Rattle.lengths.proofs.Sides.{side-hanging, side-room, side-small, side-next, side-falls, inner-written}
+use Rattle.lengths.proofs.Sides.{left-ready, left-classes, right-there, right-ready, right-classes, last-classes}
+use Prim.Native.Nat.{ℕ, _+_, _*_, _-_, _<_}
+use borrow.Fn.Kinds.{In}
+use borrow.Fn.PlainCycle.{Measures, is, falls, and}
+use Rattle.lengths.proofs.reader.read_inner.Reads as read-inner
+use Rattle.lengths.proofs.reader.read_inner.Kinds as read-inner-kinds
+use Rattle.lengths.proofs.reader.+read_inner+read_side.Lts-read_inner as read-inner-lts
+use Rattle.lengths.proofs.reader.read_side.Reads as read-side
+use Rattle.lengths.proofs.reader.read_side.Kinds as read-side-kinds
+use Rattle.lengths.proofs.reader.+read_inner+read_side.Lts-read_side as read-side-lts
+use Rattle.lengths.proofs.reader.fewer.Reads as fewer-reads
+use Rattle.lengths.proofs.reader.read_subtree.Reads as read-subtree-reads
+use Rattle.lengths.proofs.reader.side_class.Reads as side-class-reads
+use Rattle.lengths.proofs.reader.+read_inner+read_side.{statement}
+use Rattle.lengths.proofs.reader.+read_inner+read_side.Tie.{close}
+
+abbrev μ-read-inner : Measures 2 read-inner-kinds.ps ℕ
+μ-read-inner κs a = 2 * (length (a .0 .now) - a .1 .0)
+
+abbrev μ-read-side : Measures 2 read-side-kinds.ps ℕ
+μ-read-side κs a = 2 * (length (a .0 .now) - a .1 .0) + 1
+
+abbrev read-inner-at : ℕ → In 2 read-inner-kinds.ps
+read-inner-at t =
+    and 2 read-inner-kinds.ps (is 2 read-inner-kinds.ps μ-read-inner t) read-inner.Pre
+
+abbrev read-inner-below : ℕ → In 2 read-inner-kinds.ps
+read-inner-below t =
+    and 2 read-inner-kinds.ps (falls 2 read-inner-kinds.ps _<_ μ-read-inner t) read-inner.Pre
+
+abbrev read-side-at : ℕ → In 2 read-side-kinds.ps
+read-side-at t = and 2 read-side-kinds.ps (is 2 read-side-kinds.ps μ-read-side t) read-side.Pre
+
+abbrev read-side-below : ℕ → In 2 read-side-kinds.ps
+read-side-below t =
+    and 2 read-side-kinds.ps (falls 2 read-side-kinds.ps _<_ μ-read-side t) read-side.Pre
+
+read-inner-read-subtree-requires : (t : ℕ) → read-inner-lts.Need-read-subtree-requires (
+  read-subtree-reads.Asked,
+  read-subtree-reads.Learnt,
+  side-class-reads.Asked,
+  side-class-reads.Learnt,
+  fewer-reads.Asked,
+  fewer-reads.Learnt,
+  read-side-below t,
+  read-side.Post,
+) (read-inner-at t) read-inner.Post
+read-inner-read-subtree-requires t c κs = side-hanging (c .before .before .before .pre .1)
+
+read-inner-cast-k : (t : ℕ) → read-inner-lts.Need-cast-k (
+  read-subtree-reads.Asked,
+  read-subtree-reads.Learnt,
+  side-class-reads.Asked,
+  side-class-reads.Learnt,
+  fewer-reads.Asked,
+  fewer-reads.Learnt,
+  read-side-below t,
+  read-side.Post,
+) (read-inner-at t) read-inner.Post
+read-inner-cast-k t c = search needs
+
+read-inner-side-class-requires : (t : ℕ) → read-inner-lts.Need-side-class-requires (
+  read-subtree-reads.Asked,
+  read-subtree-reads.Learnt,
+  side-class-reads.Asked,
+  side-class-reads.Learnt,
+  fewer-reads.Asked,
+  fewer-reads.Learnt,
+  read-side-below t,
+  read-side.Post,
+) (read-inner-at t) read-inner.Post
+read-inner-side-class-requires t c κs = tt
+
+read-inner-slice-write-classes : (t : ℕ) → read-inner-lts.Need-slice-write-classes (
+  read-subtree-reads.Asked,
+  read-subtree-reads.Learnt,
+  side-class-reads.Asked,
+  side-class-reads.Learnt,
+  fewer-reads.Asked,
+  fewer-reads.Learnt,
+  read-side-below t,
+  read-side.Post,
+) (read-inner-at t) read-inner.Post
+read-inner-slice-write-classes t c = side-room (c .before .before .before .before .before .before .before .before .args .lefts) (c .before .before .before .before .before .before .before .before .pre .1) (c .before .before .before .before .read-subtree .ensures)
+
+read-inner-add-t13 : (t : ℕ) → read-inner-lts.Need-add-t13 (
+  read-subtree-reads.Asked,
+  read-subtree-reads.Learnt,
+  side-class-reads.Asked,
+  side-class-reads.Learnt,
+  fewer-reads.Asked,
+  fewer-reads.Learnt,
+  read-side-below t,
+  read-side.Post,
+) (read-inner-at t) read-inner.Post
+read-inner-add-t13 t c = omega (arith, side-small (c .before .before .before .before .before .before .before .before .before .args .lefts) (c .before .before .before .before .before .before .before .before .before .pre .1) (c .before .before .before .before .before .read-subtree .ensures))
+
+read-inner-fewer-requires : (t : ℕ) → read-inner-lts.Need-fewer-requires (
+  read-subtree-reads.Asked,
+  read-subtree-reads.Learnt,
+  side-class-reads.Asked,
+  side-class-reads.Learnt,
+  fewer-reads.Asked,
+  fewer-reads.Learnt,
+  read-side-below t,
+  read-side.Post,
+) (read-inner-at t) read-inner.Post
+read-inner-fewer-requires t c κs = tt
+
+read-inner-read-side-requires : (t : ℕ) → read-inner-lts.Need-read-side-requires (
+  read-subtree-reads.Asked,
+  read-subtree-reads.Learnt,
+  side-class-reads.Asked,
+  side-class-reads.Learnt,
+  fewer-reads.Asked,
+  fewer-reads.Learnt,
+  read-side-below t,
+  read-side.Post,
+) (read-inner-at t) read-inner.Post
+read-inner-read-side-requires t c κs = (
+  omega (arith, c .before .before .before .before .before .before .before .before .before .before .before .pre .0, side-falls (c .before .before .before .before .before .before .before .before .before .before .before .args .lefts) (c .before .before .before .before .before .before .before .before .before .before .before .pre .1) (c .before .before .before .before .before .before .before .read-subtree .ensures)),
+  side-next (c .before .before .before .before .before .before .before .before .before .before .before .args .lefts) (c .before .before .before .before .before .before .before .before .before .before .before .pre .1) (c .before .before .before .before .before .before .before .read-subtree .ensures) _ _ (c .before .fewer .ensures),
+)
+
+read-inner-same-length : (t : ℕ) → read-inner-lts.Need-same-length (
+  read-subtree-reads.Asked,
+  read-subtree-reads.Learnt,
+  side-class-reads.Asked,
+  side-class-reads.Learnt,
+  fewer-reads.Asked,
+  fewer-reads.Learnt,
+  read-side-below t,
+  read-side.Post,
+) (read-inner-at t) read-inner.Post
+read-inner-same-length t c =
+    c .before .before .read-side .kept .1 .1 .1 .1 .0
+    ∙ length-set (c .before .before .before .before .before .before .before .before .before .before .read-subtree .last .1 .1 .1 .0) (c .before .before .before .before .before .before .before .before .before .before .read-subtree .result .caret .0) (c .before .before .before .before .before .before .side-class .result)
+    ∙ c .before .before .before .before .before .before .before .before .before .before .read-subtree .kept .1 .1 .1 .0
+
+read-inner-returns : (t : ℕ) → read-inner-lts.Need-returns (
+  read-subtree-reads.Asked,
+  read-subtree-reads.Learnt,
+  side-class-reads.Asked,
+  side-class-reads.Learnt,
+  fewer-reads.Asked,
+  fewer-reads.Learnt,
+  read-side-below t,
+  read-side.Post,
+) (read-inner-at t) read-inner.Post
+read-inner-returns t c =
+    inner-written (c .before .before .before .before .before .before .before .before .before .before .before .before .before .before .args .lefts) (c .before .before .before .before .before .before .before .before .before .before .before .before .before .before .pre .1) (c .before .before .before .before .before .before .before .before .before .before .read-subtree .ensures) _ _ (c .before .before .before .before .before .before .side-class .ensures)
+    (c .before .before .before .before .fewer .ensures) (c .before .before .read-side .ensures)
+
+read-side-read-inner-requires : (t : ℕ) → read-side-lts.Need-read-inner-requires (
+  read-inner-below t,
+  read-inner.Post,
+) (read-side-at t) read-side.Post
+read-side-read-inner-requires t c κs =
+    (omega (arith, c .before .before .before .before .pre .0), left-ready (c .before .before .before .before .pre .1) (c .before .if1 .taken))
+
+read-side-same-length : (t : ℕ) → read-side-lts.Need-same-length (
+  read-inner-below t,
+  read-inner.Post,
+) (read-side-at t) read-side.Post
+read-side-same-length t c = c .before .before .read-inner .kept .1 .1 .1 .1 .0
+
+read-side-returns :
+    (t : ℕ) →
+    read-side-lts.Need-returns
+    (read-inner-below t, read-inner.Post)
+    (read-side-at t)
+    read-side.Post
+read-side-returns t c =
+    let args = c .before .before .before .before .before .before .before .args in
+    c .before .before .read-inner .ensures
+    ∙ ap (λ (cs : List Class). sets (args .classes .now) (args .caret .0) (classBytes cs))
+    (left-classes (drop (args .at) (args .shape .now)) (args .lefts) (c .before .before .before .before .if1 .taken))
+
+read-side-shared-slice-read-if2 : (t : ℕ) → read-side-lts.Need-shared-slice-read-if2 (
+  read-inner-below t,
+  read-inner.Post,
+) (read-side-at t) read-side.Post
+read-side-shared-slice-read-if2 t c = right-there (c .before .before .before .before .pre .1) (c .before .if1 .left)
+
+read-side-add-read-inner : (t : ℕ) → read-side-lts.Need-add-read-inner (
+  read-inner-below t,
+  read-inner.Post,
+) (read-side-at t) read-side.Post
+read-side-add-read-inner t c = omega (arith, right-there (c .before .before .before .before .before .pre .1) (c .before .before .if1 .left), c .before .before .before .before .before .good)
+
+read-side-read-inner-requires-2 : (t : ℕ) → read-side-lts.Need-read-inner-requires-2 (
+  read-inner-below t,
+  read-inner.Post,
+) (read-side-at t) read-side.Post
+read-side-read-inner-requires-2 t c κs = (
+  omega (arith, c .before .before .before .before .before .before .pre .0, right-there (c .before .before .before .before .before .before .pre .1) (c .before .before .before .if1 .left)),
+  right-ready (c .before .before .before .before .before .before .pre .1) (c .before .before .before .if1 .left) (c .before .if2 .taken),
+)
+
+read-side-same-length-2 : (t : ℕ) → read-side-lts.Need-same-length-2 (
+  read-inner-below t,
+  read-inner.Post,
+) (read-side-at t) read-side.Post
+read-side-same-length-2 t c = c .before .before .read-inner2 .kept .1 .1 .1 .1 .0
+
+read-side-returns-2 :
+    (t : ℕ) →
+    read-side-lts.Need-returns-2
+    (read-inner-below t, read-inner.Post)
+    (read-side-at t)
+    read-side.Post
+read-side-returns-2 t c =
+    let args = c .before .before .before .before .before .before .before .before .before .args in
+    c .before .before .read-inner2 .ensures
+    ∙ ap (λ (cs : List Class). sets (args .classes .now) (args .caret .0) (classBytes cs))
+    (right-classes (c .before .before .before .before .before .before .before .before .before .pre .1) (c .before .before .before .before .before .before .if1 .left) (c .before .before .before .before .if2 .taken))
+
+read-side-returns-3 :
+    (t : ℕ) →
+    read-side-lts.Need-returns-3
+    (read-inner-below t, read-inner.Post)
+    (read-side-at t)
+    read-side.Post
+read-side-returns-3 t c =
+    let args = c .before .before .before .before .before .args in
+    sym (ap (λ (cs : List Class). sets (args .classes .now) (args .caret .0) (classBytes cs))
+    (last-classes (c .before .before .before .before .before .pre .1) (c .before .before .if1 .left) (c .if2 .left)))
+
+pub +read-inner+read-side-spec : {M : Type 1} → statement M
++read-inner+read-side-spec = close μ-read-inner μ-read-side (λ t. read-inner-lts.spec (
+  read-subtree-reads.Asked,
+  read-subtree-reads.Learnt,
+  side-class-reads.Asked,
+  side-class-reads.Learnt,
+  fewer-reads.Asked,
+  fewer-reads.Learnt,
+  read-side-below t,
+  read-side.Post,
+)
+    (read-inner-at t)
+    read-inner.Post
+    (read-inner-read-subtree-requires t)
+    (read-inner-cast-k t)
+    (read-inner-side-class-requires t)
+    (read-inner-slice-write-classes t)
+    (read-inner-add-t13 t)
+    (read-inner-fewer-requires t)
+    (read-inner-read-side-requires t)
+    (read-inner-same-length t)
+    (read-inner-returns t))
+    λ t. read-side-lts.spec
+    (read-inner-below t, read-inner.Post)
+    (read-side-at t)
+    read-side.Post
+    (read-side-read-inner-requires t)
+    (read-side-same-length t)
+    (read-side-returns t)
+    (read-side-shared-slice-read-if2 t)
+    (read-side-add-read-inner t)
+    (read-side-read-inner-requires-2 t)
+    (read-side-same-length-2 t)
+    (read-side-returns-2 t)
+    (read-side-returns-3 t)

@@ -1,0 +1,45 @@
+-- `read_classes` meets its contract: caret 0, and then from a side. Assumes nothing.
+use mathlib.Core.Path.{_∙_}
+use lib.ListN.{length-set}
+use borrow.Author.Needs.{needs}
+use Rattle.lengths.proofs.LeftEdge.{no-carets, side-ready, first-room, side-written}
+use Rattle.lengths.proofs.reader.read_classes.Statement.{statement}
+use Rattle.lengths.proofs.reader.read_classes.Tie as tie
+
+left-edge-requires : tie.Need-left-edge-requires
+left-edge-requires c κs = search needs
+
+slice-write-classes : tie.Need-slice-write-classes
+slice-write-classes c = first-room (c .before .before .before .before .pre) _ (c .before .left-edge .ensures .0) (c .if1 .taken)
+
+add-read-side : tie.Need-add-read-side
+add-read-side c = search needs
+
+sub-read-side : tie.Need-sub-read-side
+sub-read-side c = search needs
+
+read-side-requires : tie.Need-read-side-requires
+read-side-requires c κs = side-ready (c .before .before .before .before .before .pre) _ (c .before .before .left-edge .ensures .0) (c .before .if1 .taken)
+
+same-length : tie.Need-same-length
+same-length c = c .before .before .read-side .kept .1 .1 .1 .1 .0 ∙ length-set (c .before .before .before .before .before .before .before .before .args .classes .now) 0 0
+
+returns : tie.Need-returns
+returns c =
+    side-written (c .before .before .before .before .before .before .before .before .pre) _ (c .before .before .before .before .before .left-edge .ensures .0) (c .before .before .before .before .if1 .taken) (c .before .before .read-side .ensures)
+
+returns-2 : tie.Need-returns-2
+returns-2 c = no-carets (c .before .before .before .before .pre) _ (c .before .left-edge .ensures .0) (c .if1 .left)
+
+pub read-classes-spec : {M : Type 1} → statement M
+read-classes-spec =
+    tie.close
+    (tie.spec
+    left-edge-requires
+    slice-write-classes
+    add-read-side
+    sub-read-side
+    read-side-requires
+    same-length
+    returns
+    returns-2)

@@ -1,0 +1,70 @@
+-- The contracts of the two calls on every input (01, 'What the desk can be asked', 'Who caused the refusal'): refusals 3,
+-- 4 and 5 of the record, then 7.
+--     pairedIn s m p   the form of the bytes s, beside buffers of the lengths m and p, or what is refused
+--     Paired           the contract of `record_to_tree_pair`
+-- Assumes nothing.
+use mathlib.Core.Path.{_≡_}
+use mathlib.Core.Bool.{cond}
+use mathlib.Core.List.{List}
+use Prim.Native.Nat.{ℕ}
+use lib.ListN.{length}
+use lib.Dec.{ltb}
+use lib.Seq.{sets}
+use Rattle.group.specs.Forms.{Form}
+use Rattle.refusals.specs.Outcomes.{Outcome, accepted, refused, after, then, valued, refusal}
+use Rattle.refusals.specs.declared.Refusal.{Refusal}
+use Rattle.refusals.specs.declared.Refusal.the-variants.{BadFrame}
+use Rattle.refusals.specs.declared.Verdict.{Verdict}
+use Rattle.refusals.specs.declared.Verdict.the-variants as Judged
+use Rattle.records.specs.Reading.{decode}
+use Rattle.trees.specs.Trees.{Tree}
+use Rattle.trees.specs.Pairs.{caretsOf, minusTree, plusTree}
+use Rattle.trees.specs.Shapes.{shape, shapeSize}
+use Rattle.trees.specs.declared.Pairing.{Pairing}
+use Rattle.trees.specs.declared.Pairing.the-variants as Paired-by
+use Rattle.lengths.specs.declared.Length.{Length}
+use Rattle.lengths.specs.declared.Length.the-variants as Summed
+use Rattle.pairs.specs.declared.TreePair.{TreePair}
+use Rattle.pairs.specs.declared.TreePair.the-variants as Pair
+use Rattle.pairs.specs.declared.WordLength.{WordLength}
+use Rattle.pairs.specs.declared.WordLength.the-variants as Word
+
+-- The outcome of each answer: the number of carets, or the length.
+abbrev pub treePairOf : TreePair → Outcome ℕ
+treePairOf (Pair.Carets n) = accepted n
+treePairOf (Pair.Refused r) = refusal r
+
+abbrev pub wordLengthOf : WordLength → Outcome ℕ
+wordLengthOf (Word.Letters n) = accepted n
+wordLengthOf (Word.Refused r) = refusal r
+
+-- The form of a record, beside buffers of the lengths m and p: both need room for a shape of N carets.
+abbrev pub pairedIn : (s : List ℕ) (m p : ℕ) → Outcome Form
+pairedIn s m p =
+    then (decode s) (λ f.
+    cond (ltb m (shapeSize (caretsOf f))) (refused 7 0)
+    (cond (ltb p (shapeSize (caretsOf f))) (refused 7 0) (accepted f)))
+
+-- A buffer at exit: the shape of a tree of the pair at its front, everything beyond unchanged.
+abbrev pub treeAfter : (Form → Tree) → Outcome Form → List ℕ → List ℕ
+treeAfter tree o buffer = after o buffer (λ f. sets buffer 0 (shape (tree f)))
+
+-- N, and the shapes of T− and T+ at the front of the first and the second buffer.
+pub record Paired (s minus plus minus′ plus′ : List ℕ) (r : TreePair) : Type 0 where
+  pub result : treePairOf r ≡ valued caretsOf (pairedIn s (length minus) (length plus))
+  pub t-minus : minus′ ≡ treeAfter minusTree (pairedIn s (length minus) (length plus)) minus
+  pub t-plus : plus′ ≡ treeAfter plusTree (pairedIn s (length minus) (length plus)) plus
+
+-- The refusal of a verdict, and the answers passed on; what is not met stands for itself.
+abbrev pub refusalIn : Verdict → Refusal
+refusalIn Judged.Accepted = BadFrame
+refusalIn (Judged.Refused r) = r
+
+abbrev pub pairingIn : Pairing → TreePair
+pairingIn (Paired-by.Carets n) = Pair.Carets n
+pairingIn (Paired-by.Refused r) = Pair.Refused r
+pairingIn Paired-by.Unfit = Pair.Refused BadFrame
+
+abbrev pub lengthIn : Length → WordLength
+lengthIn (Summed.Letters n) = Word.Letters n
+lengthIn Summed.Unfit = Word.Refused BadFrame

@@ -1,0 +1,2 @@
+-- The contracts of the calls.
+pub mod Contracts

@@ -1,0 +1,81 @@
+// The tree pair and the word length of a record.
+ghost use mathlib.Core.Path.{_≡_};
+ghost use Rattle.refusals.specs.Outcomes.{valued};
+ghost use Rattle.records.specs.Reading.{decode};
+ghost use Rattle.lengths.specs.Weights.{formLength};
+ghost use Rattle.pairs.specs.Contracts.{refusalIn, pairingIn, lengthIn, wordLengthOf, Paired};
+use lengths::Length;
+use refusals::Refusal;
+use refusals::Verdict;
+use trees::MAX_CARETS;
+use trees::Pairing;
+
+// The number of carets of each tree of the pair, or a refusal.
+pub enum TreePair {
+    Carets(usize),
+    Refused(Refusal),
+}
+
+// The word length, or a refusal.
+pub enum WordLength {
+    Letters(usize),
+    Refused(Refusal),
+}
+
+// The refusal of a verdict that is not `Accepted`.
+fn refusal_of(verdict: Verdict) -> Refusal
+    ensures { λ r. ⌜ r ≡ refusalIn verdict ⌝ }
+{
+    match verdict {
+        Verdict::Accepted => Refusal::BadFrame,
+        Verdict::Refused(r) => r,
+    }
+}
+
+// The answer of the pair writer; the tables of a form within the limits are never unfit.
+fn paired(pairing: Pairing) -> TreePair
+    ensures { λ r. ⌜ r ≡ pairingIn pairing ⌝ }
+{
+    match pairing {
+        Pairing::Carets(n) => TreePair::Carets(n),
+        Pairing::Refused(r) => TreePair::Refused(r),
+        Pairing::Unfit => TreePair::Refused(Refusal::BadFrame),
+    }
+}
+
+// The answer of the sum of weights; the tables of a form within the limits are never unfit.
+fn measured(length: Length) -> WordLength
+    ensures { λ r. ⌜ r ≡ lengthIn length ⌝ }
+{
+    match length {
+        Length::Letters(n) => WordLength::Letters(n),
+        Length::Unfit => WordLength::Refused(Refusal::BadFrame),
+    }
+}
+
+// Record to tree pair: refusals 3, 4 and 5, then 7; else the shapes of T− and T+ at the front of the two buffers.
+pub fn record_to_tree_pair(record: &[u8], t_minus: &mut [u8], t_plus: &mut [u8]) -> TreePair
+    ensures { λ r. ⌜ Paired (now («record» .entry)) (now («t_minus» .entry)) (now («t_plus» .entry))
+        (now («t_minus» .exit)) (now («t_plus» .exit)) r ⌝ }
+{
+    let mut b = [0u16; MAX_CARETS];
+    let mut a = [0u16; MAX_CARETS];
+    let verdict = records::record_to_tables(record, &mut b, &mut a);
+    let Verdict::Accepted = verdict else {
+        return TreePair::Refused(refusal_of(verdict));
+    };
+    paired(trees::write_pair(&b, &a, t_minus, t_plus))
+}
+
+// Record to length: refusals 3, 4 and 5; else the sum of the weights over the carets of the pair.
+pub fn record_to_length(record: &[u8]) -> WordLength
+    ensures { λ r. ⌜ wordLengthOf r ≡ valued formLength (decode (now («record» .entry))) ⌝ }
+{
+    let mut b = [0u16; MAX_CARETS];
+    let mut a = [0u16; MAX_CARETS];
+    let verdict = records::record_to_tables(record, &mut b, &mut a);
+    let Verdict::Accepted = verdict else {
+        return WordLength::Refused(refusal_of(verdict));
+    };
+    measured(lengths::pair_length(&b, &a))
+}
