@@ -1,2 +1,3 @@
 -- Laws of the calls.
 pub mod Tables
+pub mod Answers

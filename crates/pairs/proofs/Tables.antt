@@ -10,7 +10,7 @@ use borrow.Author.Tests.{le-ltb, eq-eqb}
 use Rattle.lists.specs.Entries.{SameEntries}
 use Rattle.lists.specs.Tables.{filled}
 use Rattle.lists.proofs.Tables.{filled-length, filled-at, filled-beyond}
-use Rattle.group.specs.Forms.{Side, bSide, aSide, Form, exponent, exponents, levels}
+use Rattle.group.specs.Forms.{Side, bSide, aSide, Form, exponent, exponents}
 use Rattle.group.specs.Limits.{limit}
 use Rattle.group.proofs.Exponents.{exponents-at}
 use Rattle.group.proofs.Reduced.{Canonical}
@@ -18,20 +18,28 @@ use Rattle.group.proofs.Sizes.{trimmed-levels}
 use Rattle.refusals.specs.Outcomes.{accepted}
 use Rattle.records.specs.Format.{Within}
 use Rattle.trees.specs.Building.{larger, needed, treeOf}
-use Rattle.trees.specs.Pairs.{caretsOfSides, caretsOf, maxCarets, minusTree, plusTree}
+use Rattle.trees.specs.Pairs.{caretsOfSides, caretsOf, maxCarets}
 use Rattle.trees.specs.Writing.{tableCarets}
 use Rattle.trees.proofs.Rows.{tree-same}
 use Rattle.trees.proofs.Needed.{needed-same}
 use Rattle.trees.proofs.Pairs.{carets-limit}
 
--- A table of zeros, filled with the exponents of a side.
-abbrev pub tableOf : Side → Form → List ℕ
-tableOf s f = filled (suc limit) (exponent s f) (replicate maxCarets 0)
+-- A table of the right size that holds zeros.
+pub record Cleared (z : List ℕ) : Type 0 where
+  pub size : length z ≡ maxCarets
+  pub zeros : (i : ℕ) → getD z i 0 ≡ 0
 
-pub table-length : (s : Side) (f : Form) → length (tableOf s f) ≡ maxCarets
-table-length s f =
-    filled-length (suc limit) (exponent s f) (replicate maxCarets 0) (omega (arith, length-replicate maxCarets 0))
-    ∙ length-replicate maxCarets 0
+zeros-at : (n i : ℕ) → _≡_ {A = ℕ} (getD (replicate n 0) i 0) 0
+zeros-at zero i = refl
+zeros-at (suc n) zero = refl
+zeros-at (suc n) (suc i) = zeros-at n i
+
+pub cleared : Cleared (replicate maxCarets 0)
+cleared = record { size = length-replicate {A = ℕ} maxCarets 0; zeros = zeros-at maxCarets }
+
+-- A table filled with the exponents of a side.
+abbrev pub tableOf : Side → Form → List ℕ → List ℕ
+tableOf s f z = filled (suc limit) (exponent s f) z
 
 -- A form within the limits has no exponent above 0 behind the limit.
 within-behind : (f : Form) → Within f → (s : Side) (i : ℕ) → limit < i → exponent s f i ≡ 0
@@ -41,43 +49,38 @@ within-behind f w s i h = go (exponent s f i) refl
     go zero q = q
     go (suc e) q = absurd (omega (arith, w .indices s i (omega arith)))
 
-zeros-at : (n i : ℕ) → getD (replicate n 0) i 0 ≡ 0
-zeros-at zero i = refl
-zeros-at (suc n) zero = refl
-zeros-at (suc n) (suc i) = zeros-at n i
+-- N never exceeds 2 · limit + 1.
+pub carets-most : (f : Form) → Canonical f → Within f → caretsOf f ≤ maxCarets
+carets-most f c w =
+    carets-limit limit f (trimmed-levels f (suc limit) (c .trimmed) (λ s i h. within-behind f w s i (omega arith)))
+    (w .sum)
 
-module _ (f : Form) (w : Within f) where
-  table-same : (s : Side) → SameEntries (tableOf s f) (exponents s f)
+module _ (f : Form) (w : Within f) {z : List ℕ} (c : Cleared z) where
+  table-length : (s : Side) → length (tableOf s f z) ≡ maxCarets
+  table-length s = filled-length (suc limit) (exponent s f) z (omega (arith, c .size)) ∙ c .size
+
+  table-same : (s : Side) → SameEntries (tableOf s f z) (exponents s f)
   table-same s i = go (decLt i (suc limit)) ∙ sym (exponents-at s f i)
     where
-      go : Dec (i < suc limit) → getD (tableOf s f) i 0 ≡ exponent s f i
-      go (yes h) = filled-at (suc limit) (exponent s f) (replicate maxCarets 0) i h
+      go : Dec (i < suc limit) → getD (tableOf s f z) i 0 ≡ exponent s f i
+      go (yes h) = filled-at (suc limit) (exponent s f) z i h
       go (no h) =
-          filled-beyond (suc limit) (exponent s f) (replicate maxCarets 0) i (omega arith)
-          ∙ zeros-at maxCarets i
+          filled-beyond (suc limit) (exponent s f) z i (omega arith)
+          ∙ c .zeros i
           ∙ sym (within-behind f w s i (omega arith))
 
-  same-carets : caretsOfSides (tableOf bSide f) (tableOf aSide f) ≡ caretsOf f
+  same-carets : caretsOfSides (tableOf bSide f z) (tableOf aSide f z) ≡ caretsOf f
   same-carets =
-      ap₂ larger (needed-same (tableOf bSide f) (exponents bSide f) (table-same bSide))
-      (needed-same (tableOf aSide f) (exponents aSide f) (table-same aSide))
+      ap₂ larger (needed-same (tableOf bSide f z) (exponents bSide f) (table-same bSide))
+      (needed-same (tableOf aSide f z) (exponents aSide f) (table-same aSide))
 
-  -- The trees of the tables are T− and T+.
-  pub minus-same : treeOf (caretsOf f) (tableOf aSide f) ≡ minusTree f
-  minus-same = tree-same (caretsOf f) (tableOf aSide f) (exponents aSide f) (table-same aSide)
-
-  pub plus-same : treeOf (caretsOf f) (tableOf bSide f) ≡ plusTree f
-  plus-same = tree-same (caretsOf f) (tableOf bSide f) (exponents bSide f) (table-same bSide)
-
-  -- N never exceeds 2 · limit + 1.
-  pub carets-most : Canonical f → caretsOf f ≤ maxCarets
-  carets-most c =
-      carets-limit limit f (trimmed-levels f (suc limit) (c .trimmed) (λ s i h. within-behind f w s i (omega arith)))
-      (w .sum)
+  -- The tree of a table is that of the side.
+  pub tree-of-table : (s : Side) → treeOf (caretsOf f) (tableOf s f z) ≡ treeOf (caretsOf f) (exponents s f)
+  tree-of-table s = tree-same (caretsOf f) (tableOf s f z) (exponents s f) (table-same s)
 
   -- The tables are fit.
-  pub tables-fit : Canonical f → tableCarets (tableOf bSide f) (tableOf aSide f) ≡ accepted (caretsOf f)
-  tables-fit c =
-      let few : caretsOfSides (tableOf bSide f) (tableOf aSide f) ≤ maxCarets =
-      omega (arith, same-carets, carets-most c) in
-      simp (eq-eqb _ _ (table-length bSide f), eq-eqb _ _ (table-length aSide f), le-ltb _ _ few) (ap accepted same-carets)
+  pub tables-fit : Canonical f → tableCarets (tableOf bSide f z) (tableOf aSide f z) ≡ accepted (caretsOf f)
+  tables-fit d =
+      let few : caretsOfSides (tableOf bSide f z) (tableOf aSide f z) ≤ maxCarets =
+      omega (arith, same-carets, carets-most f d w) in
+      simp (eq-eqb _ _ (table-length bSide), eq-eqb _ _ (table-length aSide), le-ltb _ _ few) (ap accepted same-carets)

@@ -1,0 +1,170 @@
+-- The answers of the two calls: a refusal of the reader is passed on; else the tables that it filled decide.
+-- Assumes nothing.
+use mathlib.Core.Path.{_≡_, refl, sym, ap, ap₂, _∙_, subst}
+use mathlib.Core.Bool.{Bool, true, false}
+use mathlib.Core.List.{List}
+use Prim.Native.Nat.{ℕ, suc, _≤_}
+use native.Mathlib.Omega.{arith}
+use lib.ListN.{length}
+use lib.Dec.{ltb}
+use lib.Seq.{sets}
+use borrow.Author.Tests.{le-ltb}
+use Rattle.group.specs.Forms.{bSide, aSide, Form, exponents}
+use Rattle.group.specs.Limits.{limit}
+use Rattle.group.proofs.Reduced.{Canonical}
+use Rattle.refusals.specs.Outcomes.{Outcome, accepted, refused, then, after, valued, checked, refusal, verdictOf}
+use Rattle.refusals.specs.declared.Refusal.{Refusal}
+use Rattle.refusals.specs.declared.Verdict.{Verdict}
+use Rattle.refusals.specs.declared.Verdict.the-variants.{Accepted, Refused}
+use Rattle.refusals.proofs.Outcomes.{accepted-refused, refused-number, checked-accepted, checked-refused}
+use Rattle.records.specs.Format.{Within}
+use Rattle.records.specs.Reading.{decode}
+use Rattle.records.specs.Contracts.{decodedIn, tableRead, Decoded}
+use Rattle.records.proofs.Accepted.{decode-form}
+use Rattle.trees.specs.Trees.{Tree}
+use Rattle.trees.specs.Building.{treeOf}
+use Rattle.trees.specs.Pairs.{caretsOf, maxCarets, minusTree, plusTree}
+use Rattle.trees.specs.Shapes.{shape, shapeSize}
+use Rattle.trees.specs.Writing.{pairingOf, tableCarets, pairCarets, shapeAfter, WrotePair}
+use Rattle.trees.specs.declared.Pairing.{Pairing}
+use Rattle.trees.specs.declared.Pairing.the-variants as Written
+use Rattle.lengths.specs.Weights.{pairLength, formLength}
+use Rattle.lengths.specs.Contracts.{lengthOf, tableLength}
+use Rattle.lengths.specs.declared.Length.{Length}
+use Rattle.lengths.specs.declared.Length.the-variants as Summed
+use Rattle.pairs.specs.declared.TreePair.{TreePair}
+use Rattle.pairs.specs.declared.TreePair.the-variants as Pair
+use Rattle.pairs.specs.declared.WordLength.{WordLength}
+use Rattle.pairs.specs.declared.WordLength.the-variants as Word
+use Rattle.pairs.specs.Contracts.{treePairOf, wordLengthOf, pairedIn, Paired, refusalIn, pairingIn, lengthIn}
+use Rattle.pairs.proofs.Tables.{Cleared, tableOf, tree-of-table, tables-fit}
+
+-- Tables for the largest tree are never too short for the reader.
+reader-room : (s : List ℕ) (n : ℕ) → suc limit ≤ n → decodedIn s n n ≡ decode s
+reader-room s n h = go (decode s) refl
+  where
+    go : (o : Outcome Form) → decode s ≡ o → decodedIn s n n ≡ decode s
+    go (refused k p) e = rw e refl
+    go (accepted f) e = rw e (simp (le-ltb _ _ h))
+
+-- The tables hold the exponents of the form that was read.
+pub record Read (s z b a : List ℕ) (f : Form) : Type 0 where
+  pub decodes : decode s ≡ accepted f
+  pub canonical : Canonical f
+  pub within : Within f
+  pub b-holds : b ≡ tableOf bSide f z
+  pub a-holds : a ≡ tableOf aSide f z
+
+-- What the reader left, from cleared tables.
+module _ {s z b a : List ℕ} {v : Verdict} (c : Cleared z) (d : Decoded s z z b a v) where
+  whole : decodedIn s (length z) (length z) ≡ decode s
+  whole = reader-room s (length z) (omega (arith, c .size))
+
+  judged : verdictOf v ≡ checked (decode s)
+  judged = d .result ∙ ap checked whole
+
+  -- It refused.
+  pub read-refused : {q : Refusal} → v ≡ Refused q → decode s ≡ refusal (refusalIn v)
+  read-refused {q} e =
+      checked-refused (decode s) (sym (ap (λ (x : Verdict). verdictOf x) e) ∙ judged)
+      ∙ sym (ap (λ (x : Verdict). refusal (refusalIn x)) e)
+
+  -- It accepted.
+  pub read-accepted : v ≡ Accepted → (f : Form) × Read s z b a f
+  read-accepted e =
+      let x = checked-accepted (decode s) (sym (ap verdictOf e) ∙ judged) in
+      let both = decode-form s (x .0) (x .1) in (
+        x .0,
+        record {
+          decodes = x .1;
+          canonical = both .0;
+          within = both .1;
+          b-holds = d .b-table ∙ ap (λ (o : Outcome Form). tableRead bSide o z) (whole ∙ x .1);
+          a-holds = d .a-table ∙ ap (λ (o : Outcome Form). tableRead aSide o z) (whole ∙ x .1);
+        },
+      )
+
+-- An answer of the pair writer that is not unfit is passed on.
+pairing-passed : (x : Pairing) (o : Outcome ℕ) → pairingOf x ≡ o → (o ≡ refused 0 0 → ⊥) → treePairOf (pairingIn x) ≡ o
+pairing-passed (Written.Carets n) o h fit = h
+pairing-passed (Written.Refused q) o h fit = h
+pairing-passed Written.Unfit o h fit = absurd (fit (sym h))
+
+-- The tables are fit, and their trees are those of the form.
+module _ {s z b a : List ℕ} {f : Form} (c : Cleared z) (r : Read s z b a f) where
+  fit-tables : tableCarets b a ≡ accepted (caretsOf f)
+  fit-tables =
+      ap₂ tableCarets (r .b-holds) (r .a-holds) ∙ tables-fit f (r .within) c (r .canonical)
+
+  minus-tree : treeOf (caretsOf f) a ≡ minusTree f
+  minus-tree = ap (treeOf (caretsOf f)) (r .a-holds) ∙ tree-of-table f (r .within) c aSide
+
+  plus-tree : treeOf (caretsOf f) b ≡ plusTree f
+  plus-tree = ap (treeOf (caretsOf f)) (r .b-holds) ∙ tree-of-table f (r .within) c bSide
+
+  -- The length of the tables is that of the form.
+  pub length-read : (l : Length) → lengthOf l ≡ tableLength b a
+      → wordLengthOf (lengthIn l) ≡ valued formLength (decode s)
+  length-read l e =
+      passed-on l (e ∙ ap (λ (o : Outcome ℕ). then o (λ n. accepted (pairLength (treeOf n a) (treeOf n b)))) fit-tables
+      ∙ ap₂ (λ (t u : Tree). accepted (pairLength t u)) minus-tree plus-tree)
+      ∙ sym (ap (valued formLength) (r .decodes))
+    where
+      passed-on : (k : Length) {n : ℕ} → lengthOf k ≡ accepted n → wordLengthOf (lengthIn k) ≡ accepted n
+      passed-on (Summed.Letters m) h = h
+      passed-on Summed.Unfit h = absurd (accepted-refused (sym h))
+
+  -- The shapes of the tables are those of the pair.
+  module _ {m p m′ p′ : List ℕ} (x : Pairing) (w : WrotePair b a m p m′ p′ x) where
+    -- Where a buffer is too short, nothing was written.
+    pair-short : pairCarets b a (length m) (length p) ≡ refused 7 0
+        → pairedIn s (length m) (length p) ≡ refused 7 0 → Paired s m p m′ p′ (pairingIn x)
+    pair-short e h = record {
+      result = rw h (pairing-passed x (refused 7 0) (w .result ∙ e) (λ z. absurd (omega (arith, refused-number z))));
+      t-minus = rw h (w .t-minus ∙ ap (λ (o : Outcome ℕ). shapeAfter o a m) e);
+      t-plus = rw h (w .t-plus ∙ ap (λ (o : Outcome ℕ). shapeAfter o b p) e);
+    }
+
+    -- Else both shapes were.
+    pair-long : pairCarets b a (length m) (length p) ≡ accepted (caretsOf f)
+        → pairedIn s (length m) (length p) ≡ accepted f → Paired s m p m′ p′ (pairingIn x)
+    pair-long e h = record {
+      result = rw h (pairing-passed x (accepted (caretsOf f)) (w .result ∙ e) accepted-refused);
+      t-minus =
+          rw h (w .t-minus ∙ ap (λ (o : Outcome ℕ). shapeAfter o a m) e ∙ ap (λ (t : Tree). sets m 0 (shape t)) minus-tree);
+      t-plus =
+          rw h (w .t-plus ∙ ap (λ (o : Outcome ℕ). shapeAfter o b p) e ∙ ap (λ (t : Tree). sets p 0 (shape t)) plus-tree);
+    }
+
+    pub pair-read : Paired s m p m′ p′ (pairingIn x)
+    pair-read = go (ltb (length m) (shapeSize (caretsOf f))) (ltb (length p) (shapeSize (caretsOf f))) refl refl
+      where
+        go : (k l : Bool) → ltb (length m) (shapeSize (caretsOf f)) ≡ k → ltb (length p) (shapeSize (caretsOf f)) ≡ l
+            → Paired s m p m′ p′ (pairingIn x)
+        go true l ek el = pair-short (rw (fit-tables, ek) refl) (rw (r .decodes, ek) refl)
+        go false true ek el = pair-short (rw (fit-tables, ek, el) refl) (rw (r .decodes, ek, el) refl)
+        go false false ek el = pair-long (rw (fit-tables, ek, el) refl) (rw (r .decodes, ek, el) refl)
+
+-- A refusal of the reader is passed on, and nothing was written.
+module _ {s z b a : List ℕ} {v : Verdict} {q : Refusal} (c : Cleared z) (d : Decoded s z z b a v) (e : v ≡ Refused q)
+    (r : Refusal) (is : r ≡ refusalIn v) where
+  refuses : decode s ≡ refusal r
+  refuses = read-refused c d e ∙ sym (ap refusal is)
+
+  pub pair-refused : {m p : List ℕ} → Paired s m p m p (Pair.Refused r)
+  pair-refused = record { result = rw refuses refl; t-minus = rw refuses refl; t-plus = rw refuses refl }
+
+  pub length-refused : wordLengthOf (Word.Refused r) ≡ valued formLength (decode s)
+  length-refused = rw refuses refl
+
+-- The tables of a record that is accepted give its tree pair and its length.
+module _ {s z b a : List ℕ} {v : Verdict} (c : Cleared z) (d : Decoded s z z b a v) (e : v ≡ Accepted) where
+  pub pair-answer : {m p m′ p′ : List ℕ} (x : Pairing) (r : TreePair) → WrotePair b a m p m′ p′ x → r ≡ pairingIn x
+      → Paired s m p m′ p′ r
+  pair-answer {m} {p} {m′} {p′} x r w is =
+      let f = read-accepted c d e in
+      subst (λ (t : TreePair). Paired s m p m′ p′ t) (sym is) (pair-read c (f .1) x w)
+
+  pub length-answer : (l : Length) (r : WordLength) → lengthOf l ≡ tableLength b a → r ≡ lengthIn l
+      → wordLengthOf r ≡ valued formLength (decode s)
+  length-answer l r h is = let f = read-accepted c d e in ap wordLengthOf is ∙ length-read c (f .1) l h
