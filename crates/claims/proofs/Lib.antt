@@ -3,5 +3,6 @@ pub mod Refusals
 pub mod Records
 pub mod Demands
 pub mod Forms
+pub mod Trees
 pub mod Sentences
 pub mod Worked

@@ -79,6 +79,12 @@ worked =
           joined-map (letters unreduced) ('b ∷ []) (≈→joined (free eight-pairs (letters unreduced) ('b ∷ []) refl));
       row-dead-end = form-reduced (word "aabAAAAAbaaaB");
       row-dead-end-word = refl;
+      record-dead-end = refl;
+      pair-b = (refl, refl);
+      pair-Aba = (refl, refl);
+      pair-dead-end = (refl, refl);
+      minus-dead-end = refl;
+      plus-dead-end = refl;
       relator1-printed = refl;
       relator2-printed = refl;
     }

@@ -4,36 +4,54 @@
 --                          (b table, a table, record buffer) at entry and at exit, the answer       words, Recording
 --     Compared …           the contract of same_element, for two words                           words, Comparing
 --     decode s             what check_record's contract says of the bytes s                      records, Reading
---     writtenOf, verdictOf, decisionOf   each answer as accepted, with its value, or refused,
---                          with number and place (and the word, 0 or 1)          refusals, Outcomes; words, Comparing
+--     Paired s m p m′ p′ r the contract of record_to_tree_pair: the bytes s, the two buffers at
+--                          entry and at exit, the answer; formLength is in that of
+--                          record_to_length                             pairs, Contracts; lengths, Weights
+--     writtenOf, verdictOf, decisionOf, treePairOf, wordLengthOf   each answer as accepted, with
+--                          its value, or refused, with number and place (and the word, 0 or 1)
+--                                                   refusals, Outcomes; words, Comparing; pairs, Contracts
 --     bytesOf w            the word w as bytes, one a letter                                     group, Bytes
 --     Joined u v           a chain of steps, each with one of eight strings, joins u to v        group, Chains
 --     SameMap u v          u and v move every dyadic point from 0 to 1 alike                     group, Maps
 --     Reduced f, letters f the reduced form's clause; a form written out in letters              group, Reducing, Forms
 --     exponent s f i       b_i (the Side s is bSide) or a_i (s is aSide)                         group, Forms
---     WordRefusal, NoWordRefusal, RecordRefusal   the refusals, by their literal conditions      Refusals
+--     SmallestPair f t u   trees of one size with f's exponents a and b, the smallest such pair  trees, Pairs
+--     SendsLeaves f t u    f's map sends leaf k of t to leaf k of u; Redundant, a redundant caret trees, Pairs
+--     shape t, IsKind t k x, weights   the bytes of a tree; the kind of caret k; the sum of weights
+--                                                                  trees, Shapes; lengths, Kinds, Weights
+--     WordRefusal, NoWordRefusal, RecordRefusal, PairRefusal   the refusals, by their conditions Refusals
 --     Bytes s              every element of s is a byte                                          records, Faults
 -- Assumes nothing.
 use mathlib.Core.Path.{_≡_}
 use mathlib.Core.List.{List}
 use mathlib.Core.Logic.{_↔_}
-use Prim.Native.Nat.{ℕ, _+_, _≤_}
+use Prim.Native.Nat.{ℕ, _+_, _*_, _≤_}
 use lib.ListN.{length, take, drop, getD}
+use Rattle.lists.specs.Entries.{At}
 use Rattle.group.specs.Letters.{Word}
 use Rattle.group.specs.Bytes.{bytesOf}
 use Rattle.group.specs.Chains.{Joined}
 use Rattle.group.specs.Maps.{SameMap}
 use Rattle.group.specs.Forms.{bSide, aSide, Form, exponent, letters}
+use Rattle.group.specs.Limits.{limit}
 use Rattle.group.specs.Reducing.{Reduced}
-use Rattle.refusals.specs.Outcomes.{accepted, refused, checked, verdictOf, writtenOf}
+use Rattle.refusals.specs.Outcomes.{accepted, refused, valued, checked, verdictOf, writtenOf}
 use Rattle.refusals.specs.declared.Verdict.{Verdict}
 use Rattle.refusals.specs.declared.Written.{Written}
 use Rattle.records.specs.Reading.{decode}
 use Rattle.records.specs.Faults.{Bytes}
+use Rattle.trees.specs.Trees.{Tree, carets}
+use Rattle.trees.specs.Pairs.{SmallestPair, Redundant, SendsLeaves}
+use Rattle.trees.specs.Shapes.{shape}
+use Rattle.lengths.specs.Kinds.{Kind, IsKind}
+use Rattle.lengths.specs.Weights.{weights, formLength}
+use Rattle.pairs.specs.Contracts.{Paired, treePairOf, wordLengthOf}
+use Rattle.pairs.specs.declared.TreePair.{TreePair}
+use Rattle.pairs.specs.declared.WordLength.{WordLength}
 use Rattle.words.specs.Recording.{Memory, Recorded}
 use Rattle.words.specs.Comparing.{Compared, decisionOf, same, different, refusedWord}
 use Rattle.words.specs.declared.Comparison.{Comparison}
-use Rattle.claims.specs.Refusals.{WordRefusal, NoWordRefusal, RecordRefusal}
+use Rattle.claims.specs.Refusals.{WordRefusal, NoWordRefusal, RecordRefusal, PairRefusal}
 
 -- Demand 1: each refusal is given under its condition and at no other time, and alters nothing.
 pub record RefusalsOfWords : Type 0 where
@@ -56,6 +74,16 @@ pub record RefusalsOfTwoWords : Type 0 where
   pub nothing-altered : (u v : List ℕ) (m m′ k k′ : Memory) (c : Comparison) → Compared u m m′ v k k′ c
       → (word n p : ℕ) → decisionOf c ≡ refusedWord word n p → (m′ ≡ m) × (k′ ≡ k)
 
+pub record RefusalsOfTreePairs : Type 0 where
+  pub refused-just-when : (s m p m′ p′ : List ℕ) (r : TreePair) → Bytes s → Paired s m p m′ p′ r → (n q : ℕ)
+      → (treePairOf r ≡ refused n q) ↔ PairRefusal s (length m) (length p) n q
+  pub nothing-altered : (s m p m′ p′ : List ℕ) (r : TreePair) → Paired s m p m′ p′ r → (n q : ℕ)
+      → treePairOf r ≡ refused n q → (m′ ≡ m) × (p′ ≡ p)
+
+pub record RefusalsOfLengths : Type 0 where
+  pub refused-just-when : (s : List ℕ) (r : WordLength) → Bytes s → wordLengthOf r ≡ valued formLength (decode s)
+      → (n p : ℕ) → (wordLengthOf r ≡ refused n p) ↔ RecordRefusal s n p
+
 -- Demand 2, of word to record: the bytes of an accepted word are those of one word; the record that is written for it
 -- is the record of a reduced form with the word's map, and the tables hold that form's exponents.
 pub record KeptMap (m m′ : Memory) (n : ℕ) (w : Word) : Type 0 where
@@ -75,6 +103,44 @@ pub record RecordKeepsMap : Type 0 where
       → (w : Word) × (u ≡ bytesOf w)
   pub keeps-map : (u : List ℕ) (m m′ : Memory) (r : Written) (n : ℕ) (w : Word) → Recorded u m m′ r
       → writtenOf r ≡ accepted n → u ≡ bytesOf w → KeptMap m m′ n w
+
+-- Demand 2, of the tree pair: the shapes are those of the smallest pair with the exponents of the record's form, which
+-- has no redundant caret and the form's map; the answer is its N.
+pub record PairOfRecord (s m p m′ p′ : List ℕ) (n : ℕ) : Type 0 where
+  pub form : Form
+  pub reads : decode s ≡ accepted form
+  pub minus : Tree
+  pub plus : Tree
+  pub smallest : SmallestPair form minus plus
+  pub number : (carets minus ≡ n) × (carets plus ≡ n)
+  pub few : n ≤ 2 * limit + 1
+  pub shapes : (take (2 * n + 1) m′ ≡ shape minus) × (take (2 * n + 1) p′ ≡ shape plus)
+  pub beyond : (drop (2 * n + 1) m′ ≡ drop (2 * n + 1) m) × (drop (2 * n + 1) p′ ≡ drop (2 * n + 1) p)
+  pub same-map : SendsLeaves form minus plus
+  pub no-redundant : Redundant minus plus → ⊥
+
+abbrev pub RecordGivesPair : Type 0
+RecordGivesPair =
+    (s m p m′ p′ : List ℕ) (r : TreePair) (n : ℕ) → Paired s m p m′ p′ r → treePairOf r ≡ accepted n
+    → PairOfRecord s m p m′ p′ n
+
+-- Of the length: the sum over k of the weight of caret k of T− with caret k of T+ of that pair.
+pub record LengthOfRecord (s : List ℕ) (n : ℕ) : Type 0 where
+  pub form : Form
+  pub reads : decode s ≡ accepted form
+  pub minus : Tree
+  pub plus : Tree
+  pub smallest : SmallestPair form minus plus
+  pub minus-kinds : List Kind
+  pub plus-kinds : List Kind
+  pub minus-are : (k : ℕ) (x : Kind) → At minus-kinds k x ↔ IsKind minus k x
+  pub plus-are : (k : ℕ) (x : Kind) → At plus-kinds k x ↔ IsKind plus k x
+  pub sum : n ≡ weights minus-kinds plus-kinds
+
+abbrev pub RecordGivesLength : Type 0
+RecordGivesLength =
+    (s : List ℕ) (r : WordLength) (n : ℕ) → wordLengthOf r ≡ valued formLength (decode s) → wordLengthOf r ≡ accepted n
+    → LengthOfRecord s n
 
 -- Demand 3: two accepted words have equal records, as many bytes and the same byte at each place, just when a chain
 -- joins them, whatever the lent memory held.

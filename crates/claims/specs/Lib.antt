@@ -2,5 +2,6 @@
 pub mod Refusals
 pub mod Demands
 pub mod Forms
+pub mod Trees
 pub mod Sentences
 pub mod Worked

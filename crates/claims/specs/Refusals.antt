@@ -1,7 +1,8 @@
 -- The refusals of words and records (01, 'Who caused the refusal'): for each its number, its place and its condition,
--- given where no earlier one of its order holds. For words the order is 1, 2, 6, 7; for records 3, 4, 5.
+-- given where no earlier one of its order holds. For words the order is 1, 2, 6, 7; for records 3, 4, 5, then 7.
 --     WordRefusal u m n p    of the bytes u as a word, with the memory m lent: number n, place p
 --     RecordRefusal s n p    of the bytes s as a record
+--     PairRefusal s m p k q  of the bytes s as a record, with two buffers of the lengths m and p lent: number k, place q
 -- Assumes nothing.
 use mathlib.Core.Path.{_≡_}
 use mathlib.Core.List.{List}
@@ -10,8 +11,13 @@ use Prim.Native.Nat.{ℕ, _+_, _*_, _<_}
 use lib.ListN.{length}
 use Rattle.group.specs.Bytes.{FirstNotLetter}
 use Rattle.group.specs.Limits.{limit}
+use Rattle.group.specs.Forms.{Form}
+use Rattle.refusals.specs.Outcomes.{accepted}
 use Rattle.records.specs.Format.{baseSize}
+use Rattle.records.specs.Reading.{decode}
 use Rattle.records.specs.Faults.{Framed, recordEntries, Sound, FirstFault, formRead, FirstBreak}
+use Rattle.trees.specs.Trees.{Tree, carets}
+use Rattle.trees.specs.Pairs.{SmallestPair}
 use Rattle.words.specs.Recording.{Memory}
 
 -- 1: more letters than the limit; bytes are counted.
@@ -53,3 +59,17 @@ pub data RecordRefusal (s : List ℕ) (number place : ℕ) : Type 0 where
   faulty : number ≡ 4 → Framed s → FirstFault (recordEntries s) place → RecordRefusal s number place
   unreduced : number ≡ 5 → Framed s → Sound (recordEntries s) → FirstBreak (formRead s) place
       → RecordRefusal s number place
+
+-- 7 for shapes: a buffer with fewer bytes than 2N + 1, N the carets of the record's smallest tree pair.
+pub record ShortShape (s : List ℕ) (m p : ℕ) : Type 0 where
+  pub form : Form
+  pub reads : decode s ≡ accepted form
+  pub minus : Tree
+  pub plus : Tree
+  pub smallest : SmallestPair form minus plus
+  pub short : (m < 2 * carets minus + 1) ⊎ (p < 2 * carets minus + 1)
+
+-- What is refused of a record and of the buffers lent with it for its tree pair.
+pub data PairRefusal (s : List ℕ) (m p number place : ℕ) : Type 0 where
+  unread : RecordRefusal s number place → PairRefusal s m p number place
+  shortShape : number ≡ 7 → place ≡ 0 → ShortShape s m p → PairRefusal s m p number place

@@ -1,7 +1,7 @@
 -- The rows of 01, 'Worked at the desk', that are marked P and concern forms and records, as one claim, and that the
 -- relators are the strings that 01 prints. Pairs (i, e) are an index and its exponent, as in 01; a form is written by
 -- its levels, `level b_0 a_0 (level b_1 a_1 …)`, a record byte by byte, as the fields of its two sides.
--- N, lengths and spellings come with the calls that give them.
+-- N and the length of a record are those of the form that it is read as. Spellings come with the call that gives them.
 -- Assumes nothing.
 use mathlib.Core.Path.{_≡_}
 use mathlib.Core.List.{List, [], _∷_}
@@ -19,6 +19,9 @@ use Rattle.refusals.specs.Outcomes.{refused}
 use Rattle.records.specs.Format.{encode}
 use Rattle.records.specs.Reading.{decode}
 use Rattle.records.specs.Faults.{formRead}
+use Rattle.trees.specs.Pairs.{caretsOf, minusTree, plusTree}
+use Rattle.lengths.specs.Kinds.{L0, LL, RI, RN, R0, I0, kinds}
+use Rattle.lengths.specs.Weights.{formLength}
 
 -- The form of a word that is there.
 abbrev pub formOfSome : Option Word → Option Form
@@ -70,6 +73,15 @@ unreduced = level 1 1 (level 0 0 (level 1 0 empty))
 abbrev pub deadEnd : Form
 deadEnd = level 2 2 (level 1 0 (level 0 0 (level 0 1 (level 0 0 (level 0 0 (level 1 0 empty))))))
 
+-- The tree pair of the form has so many carets, and the form has the length.
+abbrev pub HasPair : Form → (carets length : ℕ) → Type 0
+HasPair f n l = (caretsOf f ≡ n) × (formLength f ≡ l)
+
+-- The record of the dead end: its two fields.
+abbrev pub deadEndRecord : List ℕ
+deadEndRecord =
+    1 ∷ 0 ∷ 12 ∷ 0 ∷ 0 ∷ 0 ∷ 2 ∷ 0 ∷ 1 ∷ 0 ∷ 1 ∷ 0 ∷ 6 ∷ 0 ∷ 1 ∷ 2 ∷ 0 ∷ 8 ∷ 0 ∷ 0 ∷ 0 ∷ 2 ∷ 0 ∷ 3 ∷ 0 ∷ 1 ∷ []
+
 -- The rows.
 pub record Worked : Type 0 where
   -- the empty word, a word that cancels, and the first relator: the empty form
@@ -104,6 +116,14 @@ pub record Worked : Type 0 where
   -- the dead end is reduced, and is the form of the word that 01 spells it by
   pub row-dead-end : Reduced deadEnd
   pub row-dead-end-word : HasForm "aabAAAAAbaaaB" deadEnd
+  pub record-dead-end : encode deadEnd ≡ deadEndRecord
+  -- N and the length: b 3 and 1, Aba 4 and 3, the dead end 8 and 11
+  pub pair-b : HasPair x1 3 1
+  pub pair-Aba : HasPair x2 4 3
+  pub pair-dead-end : HasPair deadEnd 8 11
+  -- the kinds of the dead end's carets, as 000, Table 4, prints them
+  pub minus-dead-end : kinds (minusTree deadEnd) ≡ L0 ∷ LL ∷ LL ∷ I0 ∷ R0 ∷ R0 ∷ R0 ∷ R0 ∷ []
+  pub plus-dead-end : kinds (plusTree deadEnd) ≡ L0 ∷ I0 ∷ LL ∷ LL ∷ RN ∷ RI ∷ I0 ∷ R0 ∷ []
   -- the relators are the strings of 01
   pub relator1-printed : wordOf "aBAbabAABa" ≡ some relator1
   pub relator2-printed : wordOf "aBAAbaabAAABaa" ≡ some relator2

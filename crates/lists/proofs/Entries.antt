@@ -1,8 +1,8 @@
 -- Laws of `At`: the entries of two lists, one behind the other; which numbers have an entry, and which; the entries of
 -- a list of values. Assumes nothing.
-use mathlib.Core.Path.{_≡_, refl, sym, _∙_, ap, subst}
+use mathlib.Core.Path.{_≡_, refl, sym, _∙_, ap, ap₂, subst}
 use mathlib.Core.List.{List, [], _∷_, _++_, map}
-use mathlib.Core.Logic.{_⊎_, inl, inr}
+use mathlib.Core.Logic.{_⊎_, inl, inr, _↔_}
 use Prim.Native.Nat.{ℕ, zero, suc, _+_, _<_}
 use native.Mathlib.Omega.{arith}
 use native.Mathlib.Nat.{not-suc-le-zero, le-of-suc-le-suc}
@@ -64,3 +64,11 @@ pub at-map : {A B : Type 0} (f : A → B) (xs : List A) (k : ℕ) (x : A) → At
 at-map f [] k x h = absurd h
 at-map f (y ∷ xs) zero x h = ap f h
 at-map f (y ∷ xs) (suc k) x h = at-map f xs k x h
+
+-- Lists with the same entries are equal.
+pub at-same-list : {A : Type 0} (xs ys : List A) → ((k : ℕ) (x : A) → At xs k x ↔ At ys k x) → xs ≡ ys
+at-same-list [] [] h = refl
+at-same-list [] (y ∷ ys) h = absurd (h 0 y .1 refl)
+at-same-list (x ∷ xs) [] h = absurd (h 0 x .0 refl)
+at-same-list (x ∷ xs) (y ∷ ys) h =
+    ap₂ (λ a b. a ∷ b) (sym (h 0 x .0 refl)) (at-same-list xs ys (λ k z. h (suc k) z))
