@@ -1,6 +1,7 @@
 -- The proofs of the claims, a file for each file of claims.
 pub mod Refusals
 pub mod Records
+pub mod Pairs
 pub mod Demands
 pub mod Forms
 pub mod Trees

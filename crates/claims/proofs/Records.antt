@@ -6,7 +6,8 @@ use Prim.Native.Nat.{ℕ, _+_, _<_, _≤_}
 use native.Mathlib.Decide.{decLe}
 use native.Mathlib.Omega.{arith}
 use lib.ListN.{length, take, drop, getD}
-use lib.Seq.{sets-eq, drop-at}
+use lib.Seq.{drop-at}
+use Rattle.lists.proofs.Writes.{sets-beyond}
 use Rattle.lists.specs.Tables.{values, filled}
 use Rattle.lists.proofs.Tables.{values-length, filled-at}
 use Rattle.group.specs.Letters.{Word}
@@ -149,12 +150,7 @@ call-keeps-map {u} {m} {m′} {r} {n} {w} h e b =
       beyond = (
         table-beyond w bSide (m .b) (m′ .b) tb,
         table-beyond w aSide (m .a) (m′ .a) ta,
-        ap (drop n)
-            (h .leaves .bytes
-            ∙ ap (λ (o : Outcome Word). bufferAfter o (m .buffer)) so
-            ∙ sets-eq (recordOfWord w) (m .buffer) 0 fits)
-            ∙ drop-at (recordOfWord w) (drop (0 + length (recordOfWord w)) (m .buffer)) n (sym (call .count))
-            ∙ ap (λ (k : ℕ). drop k (m .buffer)) (let z : 0 + length (recordOfWord w) ≡ n = omega (arith, call .count)
-            in z),
+        ap (drop n) (h .leaves .bytes ∙ ap (λ (o : Outcome Word). bufferAfter o (m .buffer)) so)
+            ∙ sets-beyond (recordOfWord w) (m .buffer) n (sym (call .count)) (omega (arith, fits, call .count)),
       );
     }

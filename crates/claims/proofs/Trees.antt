@@ -1,15 +1,13 @@
 -- The claims of specs/Trees.antt, proved. Assumes nothing.
-use mathlib.Core.Path.{_≡_, refl, sym, ap₂, _∙_}
-use mathlib.Core.List.{List, [], _∷_}
+use mathlib.Core.Path.{_≡_, refl, sym, ap₂}
+use mathlib.Core.List.{List}
 use mathlib.Core.Logic.{_↔_}
-use Prim.Native.Nat.{ℕ, zero, suc, _+_, _<_}
-use native.Mathlib.Omega.{arith}
+use Prim.Native.Nat.{ℕ}
 use native.Mathlib.Numerals.{add-one}
 use Rattle.lists.specs.Entries.{At}
 use Rattle.lists.proofs.Entries.{at-same-list}
 use Rattle.group.specs.Limits.{limit}
 use Rattle.trees.specs.Trees.{Tree}
-use Rattle.trees.specs.Shapes.{shape, subtreeEnd}
 use Rattle.trees.proofs.Leaves.{leaves-length}
 use Rattle.trees.proofs.Carets as Carets
 use Rattle.trees.proofs.Pairs.{smallest-pair, pair-carets, only-pair, empty-pair, carets-limit}

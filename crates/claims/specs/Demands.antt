@@ -1,5 +1,6 @@
--- The demands of the papers on the calls, over the calls' own contracts. Each claim is a type; proofs/Demands.antt has
--- its proof, under the same name in small letters with hyphens. What the claims speak of, and where it is defined:
+-- The demands of the papers on the calls, over the calls' own contracts. Each claim is a type; proofs/Demands.antt, or
+-- proofs/Pairs.antt for tree pairs and lengths, has its proof, under the same name in small letters with hyphens. What
+-- the claims speak of, and where it is defined:
 --     Recorded u m m′ r    the contract of word_to_record: the bytes u, the memory lent with them
 --                          (b table, a table, record buffer) at entry and at exit, the answer       words, Recording
 --     Compared …           the contract of same_element, for two words                           words, Comparing

@@ -25,7 +25,7 @@ use Rattle.trees.proofs.Built.{tree-carets}
 use Rattle.trees.proofs.Shapes.{shape-length, shape-exact}
 use Rattle.lengths.specs.Classes.{Class}
 use Rattle.lengths.specs.Kinds.{kindsOf}
-use Rattle.lengths.specs.Weights.{weights, pairLength}
+use Rattle.lengths.specs.Weights.{weights}
 use Rattle.lengths.specs.Reading.{shapeClasses}
 use Rattle.lengths.specs.Contracts.{tableLength}
 use Rattle.lengths.specs.Steps.{PairShaped}

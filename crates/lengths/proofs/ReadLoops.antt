@@ -1,22 +1,19 @@
 -- The loop over the nodes of an interior subtree.
 --     Amidst         amid the nodes of an interior subtree
 -- Assumes nothing.
-use mathlib.Core.Path.{_≡_, refl, sym, ap, _∙_, subst}
-use mathlib.Core.List.{List, [], _∷_}
-use Prim.Native.Nat.{ℕ, zero, suc, _+_, _-_, _<_, _≤_}
-use native.Mathlib.Numerals.{add-one}
+use mathlib.Core.Path.{_≡_, refl, subst}
+use mathlib.Core.List.{List}
+use Prim.Native.Nat.{ℕ, suc, _+_, _-_, _<_, _≤_}
 use native.Mathlib.Omega.{arith}
-use lib.ListN.{length, drop, getD, set, length-set}
-use lib.Seq.{sets}
+use lib.ListN.{drop}
 use Rattle.lists.specs.Writes.{Writing}
 use Rattle.lists.proofs.Writes.{write-start, writing-then}
-use Rattle.trees.specs.Pairs.{maxCarets}
 use Rattle.lengths.specs.declared.reader.Amid.{Amid}
 use Rattle.lengths.specs.declared.reader.Place.{Place}
-use Rattle.lengths.specs.Reading.{insideAt, classesFrom, sideClasses, nextOnSide, pendingClasses}
-use Rattle.lengths.specs.Steps.{classByte, classBytes, leavesIn, onSide, fewer, afterDue}
+use Rattle.lengths.specs.Reading.{classesFrom, pendingClasses}
+use Rattle.lengths.specs.Steps.{classBytes, afterDue}
 use Rattle.lengths.specs.Steps.{Readable, Hanging, NodeReady, NodeRead, SubtreeRead}
-use Rattle.lengths.proofs.ReadSteps.{exact-leaves, due-some, drop-node, node-there, node-zero, behind-caret}
+use Rattle.lengths.proofs.ReadSteps.{due-some}
 
 pub record Amidst (shape : List ℕ) (at₀ caret₀ : ℕ) (entry : List ℕ) (p k pending : ℕ) (now : List ℕ) : Type 0 where
   pub writing : (l : ℕ)

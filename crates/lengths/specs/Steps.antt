@@ -16,7 +16,7 @@ use Rattle.lengths.specs.declared.reader.Place.{Place}
 use Rattle.lengths.specs.declared.sums.Behind.{Behind}
 use Rattle.lengths.specs.Classes.{Class, onLeft, onRight, insideLeaf, insideCaret}
 use Rattle.lengths.specs.Kinds.{Kind, LL, RI, RN, R0, I0, IR, inside, either}
-use Rattle.lengths.specs.Reading.{classesFrom, sideClasses, nextOnSide, pendingClasses}
+use Rattle.lengths.specs.Reading.{classesFrom, nextOnSide, pendingClasses}
 
 -- The byte of a class, and the class of a byte.
 abbrev pub classByte : Class → ℕ

@@ -11,7 +11,7 @@ use native.Mathlib.Nat.{add-zero, add-suc, suc-add, le-add-right}
 use native.Mathlib.Omega.{arith}
 use lib.ListN.{take, drop, length, set, replicate, length-append, length-set, length-drop, length-replicate}
 use lib.ListN.{replicate-append-replicate, take-append-drop, drop-of-length-le}
-use lib.Seq.{take-all, take-at, sets, sets-eq, length-sets, drop-set-add, take-set-le}
+use lib.Seq.{take-all, take-at, drop-at, sets, sets-eq, length-sets, drop-set-add, take-set-le}
 use Rattle.lists.specs.Writes.{Wrote, Writing}
 
 pub sets-append : (a l : List ℕ) (i : ℕ) (b : List ℕ) → sets (sets l i a) (i + length a) b ≡ sets l i (a ++ b)
@@ -24,6 +24,14 @@ sets-append (x ∷ a) l i b =
 pub sets-front : (a l : List ℕ) (n : ℕ) → length a ≡ n → n ≤ length l → take n (sets l 0 a) ≡ a
 sets-front a l n e h =
     ap (take n) (sets-eq a l 0 (omega arith)) ∙ take-at a (drop (0 + length a) l) n e
+
+-- What is behind it is as it was.
+pub sets-beyond : (a l : List ℕ) (n : ℕ) → length a ≡ n → n ≤ length l → drop n (sets l 0 a) ≡ drop n l
+sets-beyond a l n e h =
+    let same : 0 + length a ≡ n = omega arith in
+    ap (drop n) (sets-eq a l 0 (omega arith))
+    ∙ drop-at a (drop (0 + length a) l) n e
+    ∙ ap (λ (k : ℕ). drop k l) same
 
 -- One element more of a run of equal elements.
 pub sets-replicate : (l : List ℕ) (i k x : ℕ)

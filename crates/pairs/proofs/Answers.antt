@@ -9,10 +9,10 @@ use lib.ListN.{length}
 use lib.Dec.{ltb}
 use lib.Seq.{sets}
 use borrow.Author.Tests.{le-ltb}
-use Rattle.group.specs.Forms.{bSide, aSide, Form, exponents}
+use Rattle.group.specs.Forms.{bSide, aSide, Form}
 use Rattle.group.specs.Limits.{limit}
 use Rattle.group.proofs.Reduced.{Canonical}
-use Rattle.refusals.specs.Outcomes.{Outcome, accepted, refused, then, after, valued, checked, refusal, verdictOf}
+use Rattle.refusals.specs.Outcomes.{Outcome, accepted, refused, then, valued, checked, refusal, verdictOf}
 use Rattle.refusals.specs.declared.Refusal.{Refusal}
 use Rattle.refusals.specs.declared.Verdict.{Verdict}
 use Rattle.refusals.specs.declared.Verdict.the-variants.{Accepted, Refused}
@@ -23,7 +23,7 @@ use Rattle.records.specs.Contracts.{decodedIn, tableRead, Decoded}
 use Rattle.records.proofs.Accepted.{decode-form}
 use Rattle.trees.specs.Trees.{Tree}
 use Rattle.trees.specs.Building.{treeOf}
-use Rattle.trees.specs.Pairs.{caretsOf, maxCarets, minusTree, plusTree}
+use Rattle.trees.specs.Pairs.{caretsOf, minusTree, plusTree}
 use Rattle.trees.specs.Shapes.{shape, shapeSize}
 use Rattle.trees.specs.Writing.{pairingOf, tableCarets, pairCarets, shapeAfter, WrotePair}
 use Rattle.trees.specs.declared.Pairing.{Pairing}

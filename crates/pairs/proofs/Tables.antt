@@ -17,7 +17,7 @@ use Rattle.group.proofs.Reduced.{Canonical}
 use Rattle.group.proofs.Sizes.{trimmed-levels}
 use Rattle.refusals.specs.Outcomes.{accepted}
 use Rattle.records.specs.Format.{Within}
-use Rattle.trees.specs.Building.{larger, needed, treeOf}
+use Rattle.trees.specs.Building.{larger, treeOf}
 use Rattle.trees.specs.Pairs.{caretsOfSides, caretsOf, maxCarets}
 use Rattle.trees.specs.Writing.{tableCarets}
 use Rattle.trees.proofs.Rows.{tree-same}

@@ -3,9 +3,12 @@
 use mathlib.Core.Path.{_≡_}
 use mathlib.Core.List.{List}
 use Prim.Native.Nat.{ℕ, _+_, _*_}
-use Rattle.refusals.specs.Outcomes.{Outcome, accepted, refused}
+use lib.ListN.{length}
+use Rattle.refusals.specs.Outcomes.{Outcome, accepted, refused, valued}
 use Rattle.words.specs.Recording.{Memory, judgedWith, recorded, Left}
 use Rattle.words.specs.Comparing.{Decision, same, different, refusedWord, decided, beside}
+use Rattle.trees.specs.Pairs.{caretsOf, minusTree, plusTree}
+use Rattle.pairs.specs.Contracts.{pairedIn, treeAfter}
 use Rattle.thompson.specs.declared.Answer.{Answer}
 
 -- The two numbers of an answer.
@@ -27,6 +30,12 @@ codeOfDecision (refusedWord word number place) = answer (256 * word + number) pl
 pub record ExportedRecord (word : List ℕ) (entry exit : Memory) (r : Answer) : Type 0 where
   pub result : r ≡ codeOf (recorded (judgedWith word entry))
   pub leaves : Left (judgedWith word entry) entry exit
+
+-- Record to tree pair.
+pub record ExportedPair (s minus plus minus′ plus′ : List ℕ) (r : Answer) : Type 0 where
+  pub result : r ≡ codeOf (valued caretsOf (pairedIn s (length minus) (length plus)))
+  pub t-minus : minus′ ≡ treeAfter minusTree (pairedIn s (length minus) (length plus)) minus
+  pub t-plus : plus′ ≡ treeAfter plusTree (pairedIn s (length minus) (length plus)) plus
 
 -- Two words.
 pub record ExportedComparison (word1 : List ℕ) (entry1 exit1 : Memory) (word2 : List ℕ) (entry2 exit2 : Memory)

@@ -1,11 +1,15 @@
 // The calls for C and Rust. Each passes on to the proved call and answers two numbers: the refusal's number and place,
 // or 0 and the call's value. In the two-word call 256 is added to the number where the second word is refused.
 ghost use mathlib.Core.Path.{_≡_};
-ghost use Rattle.refusals.specs.Outcomes.{verdictOf, writtenOf, checked};
+ghost use Rattle.refusals.specs.Outcomes.{verdictOf, writtenOf, checked, valued};
 ghost use Rattle.records.specs.Reading.{decode};
 ghost use Rattle.words.specs.Recording.{memory};
 ghost use Rattle.words.specs.Comparing.{decisionOf};
-ghost use Rattle.thompson.specs.Codes.{codeOf, codeOfDecision, ExportedRecord, ExportedComparison};
+ghost use Rattle.lengths.specs.Weights.{formLength};
+ghost use Rattle.pairs.specs.Contracts.{treePairOf, wordLengthOf};
+ghost use Rattle.thompson.specs.Codes.{codeOf, codeOfDecision, ExportedRecord, ExportedComparison, ExportedPair};
+use pairs::TreePair;
+use pairs::WordLength;
 use refusals::Refusal;
 use refusals::Verdict;
 use refusals::Written;
@@ -48,6 +52,30 @@ fn from_written(w: Written) -> Answer
             value: n as u64,
         },
         Written::Refused(r) => refused(r),
+    }
+}
+
+fn from_tree_pair(p: TreePair) -> Answer
+    ensures { λ s. ⌜ s ≡ codeOf (treePairOf p) ⌝ }
+{
+    match p {
+        TreePair::Carets(n) => Answer {
+            refusal: 0,
+            value: n as u64,
+        },
+        TreePair::Refused(r) => refused(r),
+    }
+}
+
+fn from_length(l: WordLength) -> Answer
+    ensures { λ s. ⌜ s ≡ codeOf (wordLengthOf l) ⌝ }
+{
+    match l {
+        WordLength::Letters(n) => Answer {
+            refusal: 0,
+            value: n as u64,
+        },
+        WordLength::Refused(r) => refused(r),
     }
 }
 
@@ -99,6 +127,27 @@ pub extern "C" fn thompson_check_record(record: &[u8]) -> Answer
     ensures { λ r. ⌜ r ≡ codeOf (checked (decode (now («record» .entry)))) ⌝ }
 {
     from_verdict(records::check_record(record))
+}
+
+// Record to tree pair; the value is the number of carets of each tree.
+#[no_mangle]
+pub extern "C" fn thompson_record_to_tree_pair(
+    record: &[u8],
+    t_minus: &mut [u8],
+    t_plus: &mut [u8],
+) -> Answer
+    ensures { λ r. ⌜ ExportedPair (now («record» .entry)) (now («t_minus» .entry)) (now («t_plus» .entry))
+        (now («t_minus» .exit)) (now («t_plus» .exit)) r ⌝ }
+{
+    from_tree_pair(pairs::record_to_tree_pair(record, t_minus, t_plus))
+}
+
+// Record to length; the value is the length.
+#[no_mangle]
+pub extern "C" fn thompson_record_to_length(record: &[u8]) -> Answer
+    ensures { λ r. ⌜ r ≡ codeOf (valued formLength (decode (now («record» .entry)))) ⌝ }
+{
+    from_length(pairs::record_to_length(record))
 }
 
 // Two words; the value is 1 where they are the same element, and 0 where they are not.

@@ -3,7 +3,7 @@
 --     LeafExponent u e     the exponent of the leaf at u is e      HasExponents t e   leaf k has the exponent e k
 -- Assumes nothing.
 use mathlib.Core.Path.{_≡_}
-use mathlib.Core.List.{List, [], _∷_, _++_}
+use mathlib.Core.List.{[], _∷_, _++_}
 use mathlib.Core.Logic.{_⊎_}
 use Prim.Native.Nat.{ℕ, zero, suc, _<_, _≤_}
 use Rattle.group.specs.Points.{𝟎}

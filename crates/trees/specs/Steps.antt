@@ -1,7 +1,6 @@
 -- The steps of the shape writer, for the functions inside this crate. Assumes nothing.
-use mathlib.Core.Path.{_≡_}
 use mathlib.Core.List.{List}
-use Prim.Native.Nat.{ℕ, _+_, _*_, _≤_, _<_}
+use Prim.Native.Nat.{ℕ, _+_, _≤_, _<_}
 use lib.ListN.{length, drop}
 use Rattle.lists.specs.Writes.{Writing}
 use Rattle.trees.specs.declared.writer.Place.{Place}

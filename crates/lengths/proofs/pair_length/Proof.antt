@@ -1,7 +1,5 @@
 -- `pair_length` meets its contract. Assumes nothing.
-use mathlib.Core.Path.{refl}
 use Prim.Native.Nat.{_≤_}
-use native.Mathlib.Omega.{arith}
 use lib.Dec.{lit≤}
 use borrow.Author.Needs.{needs}
 use Rattle.lengths.proofs.PairLengths.{not-written, pair-shaped, pair-summed}

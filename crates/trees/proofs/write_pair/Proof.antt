@@ -1,8 +1,7 @@
 -- `write_pair` meets its contract: each answer has its case. Assumes nothing.
-use mathlib.Core.Path.{_≡_}
 use native.Mathlib.Omega.{arith}
 use borrow.Author.Needs.{needs}
-use Rattle.trees.proofs.PairAnswers.{Counts, unfit-b, unfit-a, unfit-pair, short-minus, short-plus}
+use Rattle.trees.proofs.PairAnswers.{unfit-b, unfit-a, unfit-pair, short-minus, short-plus}
 use Rattle.trees.proofs.PairAnswers.{fits-minus, fits-plus, pair-written}
 use Rattle.trees.proofs.write_pair.Statement.{statement}
 use Rattle.trees.proofs.write_pair.Tie as tie

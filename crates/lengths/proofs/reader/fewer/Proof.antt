@@ -1,6 +1,4 @@
 -- `fewer` meets its contract. Assumes nothing.
-use Prim.Native.Nat.{_<_}
-use native.Mathlib.Omega.{arith}
 use borrow.Author.Needs.{needs}
 use Rattle.lengths.proofs.Sides.{fewer-some, fewer-none}
 use Rattle.lengths.proofs.reader.fewer.Statement.{statement}

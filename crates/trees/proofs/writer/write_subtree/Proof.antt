@@ -5,7 +5,7 @@ use native.Mathlib.Omega.{arith}
 use lib.ListN.{length, drop}
 use Rattle.lists.proofs.Writes.{writing-same, writing-length}
 use Rattle.trees.specs.Writing.{nodesFrom}
-use Rattle.trees.proofs.WriteSteps.{Pending, own-length, pending-start, pending-room, pending-bound}
+use Rattle.trees.proofs.WriteSteps.{Pending, own-length, pending-start, pending-bound}
 use Rattle.trees.proofs.WriteSteps.{pending-more, leaf-room}
 use Rattle.trees.proofs.writer.write_subtree.Statement.{statement}
 use Rattle.trees.proofs.writer.write_subtree.Tie as tie

@@ -1,0 +1,19 @@
+-- `thompson_record_to_length` meets its contract. Assumes nothing.
+use mathlib.Core.Path.{ap, _∙_}
+use Rattle.thompson.specs.Codes.{codeOf}
+use borrow.Author.Needs.{needs}
+use Rattle.thompson.proofs.thompson_record_to_length.Statement.{statement}
+use Rattle.thompson.proofs.thompson_record_to_length.Tie as tie
+
+record-to-length-requires : tie.Need-record-to-length-requires
+record-to-length-requires c κs = search needs
+
+from-length-requires : tie.Need-from-length-requires
+from-length-requires c κs = search needs
+
+returns : tie.Need-returns
+returns c = c .from-length .ensures ∙ ap codeOf (c .before .record-to-length .ensures)
+
+pub thompson-record-to-length-spec : {M : Type 1} → statement M
+thompson-record-to-length-spec =
+    tie.close (tie.spec record-to-length-requires from-length-requires returns)

@@ -1,0 +1,35 @@
+-- `thompson_record_to_tree_pair` meets its contract. Assumes nothing.
+use mathlib.Core.Path.{ap, _∙_}
+use Rattle.thompson.specs.Codes.{codeOf}
+use borrow.Author.Needs.{needs}
+use Rattle.thompson.proofs.thompson_record_to_tree_pair.Statement.{statement}
+use Rattle.thompson.proofs.thompson_record_to_tree_pair.Tie as tie
+
+record-to-tree-pair-requires : tie.Need-record-to-tree-pair-requires
+record-to-tree-pair-requires c κs = search needs
+
+from-tree-pair-requires : tie.Need-from-tree-pair-requires
+from-tree-pair-requires c κs = search needs
+
+same-length : tie.Need-same-length
+same-length c = search needs
+
+same-length-2 : tie.Need-same-length-2
+same-length-2 c = search needs
+
+returns : tie.Need-returns
+returns c = let call = c .before .before .before .before .before .record-to-tree-pair .ensures in record {
+  result = c .from-tree-pair .ensures ∙ ap codeOf (call .result);
+  t-minus = call .t-minus;
+  t-plus = call .t-plus;
+}
+
+pub thompson-record-to-tree-pair-spec : {M : Type 1} → statement M
+thompson-record-to-tree-pair-spec =
+    tie.close
+    (tie.spec
+    record-to-tree-pair-requires
+    from-tree-pair-requires
+    same-length
+    same-length-2
+    returns)
