@@ -2,7 +2,7 @@
 -- given where no earlier one of its order holds. For words the order is 1, 2, 6, 7; for records 3, 4, 5, then 7.
 --     WordRefusal u m n p    of the bytes u as a word, with the memory m lent: number n, place p
 --     RecordRefusal s n p    of the bytes s as a record
---     PairRefusal s m p k q  of the bytes s as a record, with two buffers of the lengths m and p lent: number k, place q
+--     PairRefusal s m p k q  of the bytes s as a record, beside buffers of the lengths m and p: number k, place q
 -- Assumes nothing.
 use mathlib.Core.Path.{_≡_}
 use mathlib.Core.List.{List}

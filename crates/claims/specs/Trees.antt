@@ -51,8 +51,8 @@ abbrev pub NoRedundantCaret : Type 0
 NoRedundantCaret =
     (f : Form) (t s : Tree) → Pair f t s → (Redundant t s → ⊥) ↔ (Reduced f × SmallestPair f t s)
 
--- 000, section 2.5: leaf k of T− goes to leaf k of T+ by the form's map, at every dyadic point; every point below 1 lies
--- in a leaf, and the end 1 is fixed.
+-- 000, section 2.5: leaf k of T− goes to leaf k of T+ by the form's map, at every dyadic point; every point below 1
+-- lies in a leaf, and the end 1 is fixed.
 pub record PairIsMap : Type 0 where
   pub sends : (f : Form) (t s : Tree) → Pair f t s → SendsLeaves f t s
   pub covers : (t : Tree) (p : List Digit) → InLeaf t p
@@ -74,8 +74,8 @@ pub record SymmetricWeights : Type 0 where
   pub of-first : weight L0 L0 ≡ 0
   pub symmetric : (x y : Kind) → weight x y ≡ weight y x
 
--- The length of a pair is the sum over k of the weight of caret k of T− with caret k of T+, for the lists of the carets'
--- kinds, from left to right.
+-- The length of a pair is the sum over k of the weight of caret k of T− with caret k of T+, for the lists of the
+-- carets' kinds, from left to right.
 abbrev pub LengthIsSum : Type 0
 LengthIsSum =
     (t s : Tree) (xs ys : List Kind)

@@ -88,7 +88,8 @@ module _ {shape classes : List ℕ} (r : Readable shape 0 1 0 classes) (lefts : 
   pub no-carets : lefts ≤ 0 → classes ≡ sets classes 0 (classBytes (shapeClasses shape))
   no-carets h =
       let none : 0 ≡ leftCarets shape + 0 = omega arith in
-      sym (ap (λ (cs : List Class). sets classes 0 (classBytes cs)) (edge-classes shape 1 0 0 (omega arith) (r .exact) none))
+      sym (ap (λ (cs : List Class). sets classes 0 (classBytes cs)) (edge-classes shape 1 0 0 (omega arith) (r .exact)
+      none))
 
   module _ (some : 0 < lefts) where
     behind : drop (lefts + 1) shape ≡ drop (suc (leftCarets shape)) shape

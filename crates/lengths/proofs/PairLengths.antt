@@ -74,7 +74,11 @@ module _ {b a entry minus plus : List ℕ} {r : Pairing} (w : WrotePair b a entr
     front es exit h e =
         let size : length (shape (treeOf n es)) ≡ shapeSize n =
         shape-length (treeOf n es) ∙ ap shapeSize (tree-carets n es h) in
-        ap (take (shapeSize n)) e ∙ sets-front (shape (treeOf n es)) entry (shapeSize n) size (omega (arith, counted .1))
+        ap (take (shapeSize n)) e ∙ sets-front (shape (treeOf n es)) entry (shapeSize n) size (omega (
+          arith,
+          counted
+              .1,
+        ))
 
     written : pairCarets b a (length entry) (length entry) ≡ accepted n
     written = large-buffers b a (length entry) large ∙ sym found

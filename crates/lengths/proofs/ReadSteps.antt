@@ -179,7 +179,8 @@ module _ {shape : List ℕ} {at caret pending : ℕ} {classes : List ℕ} (r : N
   -- A leaf before the last: the next caret is interior, and there is room for it.
   module _ (e : getD shape at 0 ≡ 0) (many : 1 < pending) where
     next-ready : Readable shape (at + 1) (pending - 1 + suc (r .more)) (suc caret) classes
-    next-ready = behind-leaf (r .readable) (some-trees (r .more)) (pending - 1 + suc (r .more)) classes e (omega arith) refl
+    next-ready = behind-leaf (r .readable) (some-trees (r .more)) (pending - 1 + suc (r .more)) classes e (omega
+        arith) refl
 
     next-leaf : 0 < leavesIn (drop (at + 1) shape)
     next-leaf =

@@ -1,5 +1,5 @@
--- The classes of a tree's carets, read from the bytes of its shape in one pass. That they are the classes of the tree is
--- claimed apart from this.
+-- The classes of a tree's carets, read from the bytes of its shape in one pass. That they are the classes of the tree
+-- is claimed apart from this.
 --     classesFrom s o l   from inside an interior subtree: o interior subtrees to come, then l carets of the left side
 --     sideClasses s l     from a side: the subtree that hangs there begins, l carets of the left side to come
 --     shapeClasses s      from the start of a shape
@@ -14,9 +14,9 @@ abbrev pub insideAt : ℕ → Class
 insideAt zero = insideLeaf
 insideAt (suc b) = insideCaret
 
--- A caret of an interior subtree opens one subtree more. A leaf closes one, and the caret whose left subtree ends with it
--- is the next in order: an interior one, or, where none is open, the next of the side. Where o is 0 the right side goes
--- on: a caret begins with its left subtree, a leaf is the last.
+-- A caret of an interior subtree opens one subtree more. A leaf closes one, and the caret whose left subtree ends with
+-- it is the next in order: an interior one, or, where none is open, the next of the side. Where o is 0 the right side
+-- goes on: a caret begins with its left subtree, a leaf is the last.
 unfoldable pub classesFrom : List ℕ → (o l : ℕ) → List Class
 classesFrom [] o l = []
 classesFrom (zero ∷ s) zero l = []

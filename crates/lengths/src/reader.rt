@@ -9,8 +9,8 @@ ghost use Rattle.lengths.specs.Steps.{classByte, classBytes, onSide, few
 ghost use Rattle.lengths.specs.Steps.{Readable, Hanging, NodeReady, NodeRead, SubtreeRead, Shaped};
 use refusals::CaretNumber;
 
-// The classes of carets, as they are kept in a table: on the left side, on the right side, interior with a leaf as right
-// child, any other interior caret.
+// The classes of carets, as they are kept in a table: on the left side, on the right side, interior with a leaf as
+// right child, any other interior caret.
 pub const LEFT: u8 = 0;
 
 pub const RIGHT: u8 = 1;
@@ -47,7 +47,8 @@ fn read_node(
     classes: &mut [u8],
 ) -> Amid
     requires { ⌜ NodeReady (now shape) at (caret .0) pending (now classes) ⌝ }
-    ensures { λ r. ⌜ NodeRead (now (shape .entry)) at (caret .0) pending (now (classes .entry)) (now (classes .exit)) r ⌝ }
+    ensures { λ r. ⌜ NodeRead (now (shape .entry)) at (caret .0) pending (now (classes .entry))
+        (now (classes .exit)) r ⌝ }
 {
     if shape[at] == 1 {
         return Amid {

@@ -131,9 +131,11 @@ module _ {s z b a : List ℕ} {f : Form} (c : Cleared z) (r : Read s z b a f) wh
     pair-long e h = record {
       result = rw h (pairing-passed x (accepted (caretsOf f)) (w .result ∙ e) accepted-refused);
       t-minus =
-          rw h (w .t-minus ∙ ap (λ (o : Outcome ℕ). shapeAfter o a m) e ∙ ap (λ (t : Tree). sets m 0 (shape t)) minus-tree);
+          rw h (w .t-minus ∙ ap (λ (o : Outcome ℕ). shapeAfter o a m) e ∙ ap (λ (t : Tree). sets m 0 (shape t))
+          minus-tree);
       t-plus =
-          rw h (w .t-plus ∙ ap (λ (o : Outcome ℕ). shapeAfter o b p) e ∙ ap (λ (t : Tree). sets p 0 (shape t)) plus-tree);
+          rw h (w .t-plus ∙ ap (λ (o : Outcome ℕ). shapeAfter o b p) e ∙ ap (λ (t : Tree). sets p 0 (shape t))
+          plus-tree);
     }
 
     pub pair-read : Paired s m p m′ p′ (pairingIn x)

@@ -1,5 +1,5 @@
--- The contracts of the two calls on every input (01, 'What the desk can be asked', 'Who caused the refusal'): refusals 3,
--- 4 and 5 of the record, then 7.
+-- The contracts of the two calls on every input (01, 'What the desk can be asked', 'Who caused the refusal'): refusals
+-- 3, 4 and 5 of the record, then 7.
 --     pairedIn s m p   the form of the bytes s, beside buffers of the lengths m and p, or what is refused
 --     Paired           the contract of `record_to_tree_pair`
 -- Assumes nothing.

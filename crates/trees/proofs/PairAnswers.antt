@@ -19,7 +19,8 @@ use Rattle.trees.specs.Writing.{pairingOf, tableCarets, pairCarets, Wrot
 use Rattle.trees.specs.Steps.{Fits}
 use Rattle.trees.proofs.Needed.{larger-left, larger-right}
 
-refuses : {b a m p : List ℕ} {number place : ℕ} {r : Pairing} → pairCarets b a (length m) (length p) ≡ refused number place
+refuses : {b a m p : List ℕ} {number place : ℕ} {r : Pairing} → pairCarets b a (length m) (length p) ≡ refused number
+    place
     → pairingOf r ≡ refused number place → WrotePair b a m p m p r
 refuses e h = record { result = rw e h; t-minus = rw e refl; t-plus = rw e refl }
 

@@ -9,8 +9,8 @@ use Rattle.trees.specs.Pairs.{maxCarets}
 use Rattle.trees.specs.Shapes.{shapeSize}
 use Rattle.trees.specs.Writing.{nodesFrom}
 
--- From leaf k of the exponents e on, with o interior subtrees to come, the nodes have room from a place on, in a shape of
--- a tree that is not too large, and no more leaves than nodes stand before the place.
+-- From leaf k of the exponents e on, with o interior subtrees to come, the nodes have room from a place on, in a shape
+-- of a tree that is not too large, and no more leaves than nodes stand before the place.
 pub record Room (e : List ℕ) (k o at : ℕ) (buffer : List ℕ) : Type 0 where
   pub room : at + length (nodesFrom (drop k e) o) ≤ length buffer
   pub small : at + length (nodesFrom (drop k e) o) ≤ shapeSize maxCarets

@@ -1,4 +1,4 @@
--- Rooted binary trees, their carets and leaves (01, 'The tree pair and the length'; 000, definition 2.1 and section 2.5).
+-- Rooted binary trees, their carets and leaves (01, 'The tree pair and the length'; 000, definition 2.1, section 2.5).
 --     carets t          the number N of carets              Leaf t k u      leaf k is at the address u
 --     Address           the way down from the root          Caret t k v     caret k is at the address v
 --     LeftSide v, RightSide v   sides of a tree, both with the root    Subtree t u x   x is the subtree at u

@@ -79,7 +79,8 @@ fn write_subtree(e: &[u16], leaf: LeafNumber, shape: &mut [u8], at: usize) -> Pl
 // The rest of the tree from a leaf on, where a caret of the right side begins; answers where it ends.
 fn write_spine(e: &[u16], leaf: LeafNumber, shape: &mut [u8], at: usize) -> usize
     requires { ⌜ Room (now e) (leaf .0) 0 at (now shape) ⌝ }
-    ensures { λ r. ⌜ Wrote (nodesFrom (drop (leaf .0) (now (e .entry))) 0) (now (shape .entry)) at (now (shape .exit)) r ⌝ }
+    ensures { λ r. ⌜ Wrote (nodesFrom (drop (leaf .0) (now (e .entry))) 0) (now (shape .entry)) at
+        (now (shape .exit)) r ⌝ }
 {
     if (leaf.0 as usize) < e.len() {
         shape[at] = 1;
@@ -91,7 +92,8 @@ fn write_spine(e: &[u16], leaf: LeafNumber, shape: &mut [u8], at: usize) -> usiz
 // The rest of the tree from a leaf on, where an interior subtree begins.
 fn write_inner(e: &[u16], leaf: LeafNumber, shape: &mut [u8], at: usize) -> usize
     requires { ⌜ Room (now e) (leaf .0) 1 at (now shape) ⌝ }
-    ensures { λ r. ⌜ Wrote (nodesFrom (drop (leaf .0) (now (e .entry))) 1) (now (shape .entry)) at (now (shape .exit)) r ⌝ }
+    ensures { λ r. ⌜ Wrote (nodesFrom (drop (leaf .0) (now (e .entry))) 1) (now (shape .entry)) at
+        (now (shape .exit)) r ⌝ }
 {
     let p = write_subtree(e, leaf, shape, at);
     write_spine(e, p.leaf, shape, p.at)

@@ -28,11 +28,13 @@ slice-aggregate-shapes-length-2 : tie.Need-slice-aggregate-shapes-length-2
 slice-aggregate-shapes-length-2 c = search needs
 
 shapes-length-requires : tie.Need-shapes-length-requires
-shapes-length-requires c κs = pair-shaped (c .before .before .before .before .before .before .before .write-pair .ensures) (lit≤ tt) (c .before .before .before .pairing .given .1)
+shapes-length-requires c κs = pair-shaped (c .before .before .before .before .before .before .before .write-pair
+    .ensures) (lit≤ tt) (c .before .before .before .pairing .given .1)
 
 returns-2 : tie.Need-returns-2
 returns-2 c =
-    pair-summed (c .before .before .before .before .before .before .before .before .write-pair .ensures) (lit≤ tt) (c .before .before .before .before .pairing .given .1) (c .shapes-length .ensures)
+    pair-summed (c .before .before .before .before .before .before .before .before .write-pair .ensures) (lit≤ tt) (c
+    .before .before .before .before .pairing .given .1) (c .shapes-length .ensures)
 
 pub pair-length-spec : {M : Type 1} → statement M
 pair-length-spec =

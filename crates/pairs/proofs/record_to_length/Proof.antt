@@ -25,7 +25,8 @@ refusal-of-requires c κs = search needs
 
 returns : tie.Need-returns
 returns c =
-    length-refused cleared (c .before .before .before .before .before .record-to-tables .ensures) (c .before .enum-told2 .given .1) _ (c .refusal-of .ensures)
+    length-refused cleared (c .before .before .before .before .before .record-to-tables .ensures) (c .before
+    .enum-told2 .given .1) _ (c .refusal-of .ensures)
 
 slice-aggregate-pair-length : tie.Need-slice-aggregate-pair-length
 slice-aggregate-pair-length c = search needs
@@ -41,7 +42,8 @@ measured-requires c κs = search needs
 
 returns-2 : tie.Need-returns-2
 returns-2 c =
-    length-answer cleared (c .before .before .before .before .before .before .before .before .record-to-tables .ensures) (c .before .before .before .before .enum-told .given .1) (c .before .pair-length .result) _
+    length-answer cleared (c .before .before .before .before .before .before .before .before .record-to-tables
+    .ensures) (c .before .before .before .before .enum-told .given .1) (c .before .pair-length .result) _
     (c .before .pair-length .ensures) (c .measured .ensures)
 
 pub record-to-length-spec : {M : Type 1} → statement M

@@ -25,7 +25,8 @@ refusal-of-requires c κs = search needs
 
 returns : tie.Need-returns
 returns c =
-    pair-refused cleared (c .before .before .before .before .before .record-to-tables .ensures) (c .before .enum-told2 .given .1) _ (c .refusal-of .ensures)
+    pair-refused cleared (c .before .before .before .before .before .record-to-tables .ensures) (c .before .enum-told2
+    .given .1) _ (c .refusal-of .ensures)
 
 slice-aggregate-write-pair : tie.Need-slice-aggregate-write-pair
 slice-aggregate-write-pair c = search needs
@@ -47,7 +48,9 @@ same-length-2 c = search needs
 
 returns-2 : tie.Need-returns-2
 returns-2 c =
-    pair-answer cleared (c .before .before .before .before .before .before .before .before .before .before .before .before .before .before .record-to-tables .ensures) (c .before .before .before .before .before .before .before .before .before .before .enum-told .given .1) _ _
+    pair-answer cleared (c .before .before .before .before .before .before .before .before .before .before .before
+    .before .before .before .record-to-tables .ensures) (c .before .before .before .before .before .before .before
+    .before .before .before .enum-told .given .1) _ _
     (c .before .before .before .before .before .write-pair .ensures) (c .paired .ensures)
 
 pub record-to-tree-pair-spec : {M : Type 1} → statement M

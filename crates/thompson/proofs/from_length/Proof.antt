@@ -20,7 +20,8 @@ returns : tie.Need-returns
 returns c = sym (ap (λ (l : WordLength). codeOf (wordLengthOf l)) (c .before .l .given .1))
 
 returns-2 : tie.Need-returns-2
-returns-2 c = c .refused .ensures ∙ sym (ap (λ (l : WordLength). codeOf (wordLengthOf l)) (c .before .before .l2 .given .1))
+returns-2 c = c .refused .ensures ∙ sym (ap (λ (l : WordLength). codeOf (wordLengthOf l)) (c .before .before .l2
+    .given .1))
 
 pub from-length-spec : {M : Type 1} → statement M
 from-length-spec =

@@ -56,7 +56,8 @@ returns-5 c =
 
 write-tree-requires : tie.Need-write-tree-requires
 write-tree-requires c κs =
-    fits-minus {b = c .before .before .before .before .before .before .before .before .before .before .before .args .b .now} (
+    fits-minus {b = c .before .before .before .before .before .before .before .before .before .before .before .args .b
+    .now} (
     record {
       b-size = omega (arith, c .before .before .before .before .before .before .if1 .left);
       a-size = omega (arith, c .before .before .before .before .before .if2 .left);
@@ -65,9 +66,14 @@ write-tree-requires c κs =
 
 write-tree-requires-2 : tie.Need-write-tree-requires-2
 write-tree-requires-2 c κs =
-    fits-plus {a = c .before .before .before .before .before .before .before .before .before .before .before .before .before .before .before .args .a .now} (
+    fits-plus {a = c .before .before .before .before .before .before .before .before .before .before .before .before
+    .before .before .before .args .a .now} (
     record {
-      b-size = omega (arith, c .before .before .before .before .before .before .before .before .before .before .if1 .left);
+      b-size = omega (
+        arith,
+        c .before .before .before .before .before .before .before .before .before .before .if1
+            .left,
+      );
       a-size = omega (arith, c .before .before .before .before .before .before .before .before .before .if2 .left);
       carets = c .before .before .before .before .before .before .before .before .carets .ensures;
     }) (omega arith) (omega arith)
@@ -82,11 +88,22 @@ returns-6 : tie.Need-returns-6
 returns-6 c =
     pair-written (
     record {
-      b-size = omega (arith, c .before .before .before .before .before .before .before .before .before .before .before .before .before .if1 .left);
-      a-size = omega (arith, c .before .before .before .before .before .before .before .before .before .before .before .before .if2 .left);
-      carets = c .before .before .before .before .before .before .before .before .before .before .before .carets .ensures;
+      b-size = omega (
+        arith,
+        c .before .before .before .before .before .before .before .before .before .before .before
+            .before .before .if1 .left,
+      );
+      a-size = omega (
+        arith,
+        c .before .before .before .before .before .before .before .before .before .before .before
+            .before .if2 .left,
+      );
+      carets = c .before .before .before .before .before .before .before .before .before .before .before .carets
+          .ensures;
     })
-    (omega (arith, c .before .before .before .before .before .before .before .before .before .before .if3 .left)) (omega (arith, c .before .before .before .before .before .before .before .before .before .if4 .left)) (omega (arith, c .before .before .before .before .before .before .before .before .if5 .left))
+    (omega (arith, c .before .before .before .before .before .before .before .before .before .before .if3 .left))
+    (omega (arith, c .before .before .before .before .before .before .before .before .before .if4 .left)) (omega
+    (arith, c .before .before .before .before .before .before .before .before .if5 .left))
     (c .before .before .before .before .before .before .write-tree .ensures) (c .before .before .write-tree2 .ensures)
 
 pub write-pair-spec : {M : Type 1} → statement M

@@ -92,7 +92,9 @@ read-inner-slice-write-classes : (t : ℕ) → read-inner-lts.Need-slice-write-c
   read-side-below t,
   read-side.Post,
 ) (read-inner-at t) read-inner.Post
-read-inner-slice-write-classes t c = side-room (c .before .before .before .before .before .before .before .before .args .lefts) (c .before .before .before .before .before .before .before .before .pre .1) (c .before .before .before .before .read-subtree .ensures)
+read-inner-slice-write-classes t c = side-room (c .before .before .before .before .before .before .before .before
+    .args .lefts) (c .before .before .before .before .before .before .before .before .pre .1) (c .before .before
+    .before .before .read-subtree .ensures)
 
 read-inner-add-t13 : (t : ℕ) → read-inner-lts.Need-add-t13 (
   read-subtree-reads.Asked,
@@ -104,7 +106,12 @@ read-inner-add-t13 : (t : ℕ) → read-inner-lts.Need-add-t13 (
   read-side-below t,
   read-side.Post,
 ) (read-inner-at t) read-inner.Post
-read-inner-add-t13 t c = omega (arith, side-small (c .before .before .before .before .before .before .before .before .before .args .lefts) (c .before .before .before .before .before .before .before .before .before .pre .1) (c .before .before .before .before .before .read-subtree .ensures))
+read-inner-add-t13 t c = omega (
+  arith,
+  side-small (c .before .before .before .before .before .before .before .before
+      .before .args .lefts) (c .before .before .before .before .before .before .before .before .before .pre .1) (c
+      .before .before .before .before .before .read-subtree .ensures),
+)
 
 read-inner-fewer-requires : (t : ℕ) → read-inner-lts.Need-fewer-requires (
   read-subtree-reads.Asked,
@@ -129,8 +136,16 @@ read-inner-read-side-requires : (t : ℕ) → read-inner-lts.Need-read-side-requ
   read-side.Post,
 ) (read-inner-at t) read-inner.Post
 read-inner-read-side-requires t c κs = (
-  omega (arith, c .before .before .before .before .before .before .before .before .before .before .before .pre .0, side-falls (c .before .before .before .before .before .before .before .before .before .before .before .args .lefts) (c .before .before .before .before .before .before .before .before .before .before .before .pre .1) (c .before .before .before .before .before .before .before .read-subtree .ensures)),
-  side-next (c .before .before .before .before .before .before .before .before .before .before .before .args .lefts) (c .before .before .before .before .before .before .before .before .before .before .before .pre .1) (c .before .before .before .before .before .before .before .read-subtree .ensures) _ _ (c .before .fewer .ensures),
+  omega (
+    arith,
+    c .before .before .before .before .before .before .before .before .before .before .before .pre .0,
+    side-falls (c .before .before .before .before .before .before .before .before .before .before .before .args
+        .lefts) (c .before .before .before .before .before .before .before .before .before .before .before .pre .1) (c
+        .before .before .before .before .before .before .before .read-subtree .ensures),
+  ),
+  side-next (c .before .before .before .before .before .before .before .before .before .before .before .args .lefts)
+      (c .before .before .before .before .before .before .before .before .before .before .before .pre .1) (c .before
+      .before .before .before .before .before .before .read-subtree .ensures) _ _ (c .before .fewer .ensures),
 )
 
 read-inner-same-length : (t : ℕ) → read-inner-lts.Need-same-length (
@@ -145,7 +160,9 @@ read-inner-same-length : (t : ℕ) → read-inner-lts.Need-same-length (
 ) (read-inner-at t) read-inner.Post
 read-inner-same-length t c =
     c .before .before .read-side .kept .1 .1 .1 .1 .0
-    ∙ length-set (c .before .before .before .before .before .before .before .before .before .before .read-subtree .last .1 .1 .1 .0) (c .before .before .before .before .before .before .before .before .before .before .read-subtree .result .caret .0) (c .before .before .before .before .before .before .side-class .result)
+    ∙ length-set (c .before .before .before .before .before .before .before .before .before .before .read-subtree
+    .last .1 .1 .1 .0) (c .before .before .before .before .before .before .before .before .before .before
+    .read-subtree .result .caret .0) (c .before .before .before .before .before .before .side-class .result)
     ∙ c .before .before .before .before .before .before .before .before .before .before .read-subtree .kept .1 .1 .1 .0
 
 read-inner-returns : (t : ℕ) → read-inner-lts.Need-returns (
@@ -159,15 +176,22 @@ read-inner-returns : (t : ℕ) → read-inner-lts.Need-returns (
   read-side.Post,
 ) (read-inner-at t) read-inner.Post
 read-inner-returns t c =
-    inner-written (c .before .before .before .before .before .before .before .before .before .before .before .before .before .before .args .lefts) (c .before .before .before .before .before .before .before .before .before .before .before .before .before .before .pre .1) (c .before .before .before .before .before .before .before .before .before .before .read-subtree .ensures) _ _ (c .before .before .before .before .before .before .side-class .ensures)
+    inner-written (c .before .before .before .before .before .before .before .before .before .before .before .before
+    .before .before .args .lefts) (c .before .before .before .before .before .before .before .before .before
+    .before .before .before .before .before .pre .1) (c .before .before .before .before .before .before .before
+    .before .before .before .read-subtree .ensures) _ _ (c .before .before .before .before .before .before
+    .side-class .ensures)
     (c .before .before .before .before .fewer .ensures) (c .before .before .read-side .ensures)
 
 read-side-read-inner-requires : (t : ℕ) → read-side-lts.Need-read-inner-requires (
   read-inner-below t,
   read-inner.Post,
 ) (read-side-at t) read-side.Post
-read-side-read-inner-requires t c κs =
-    (omega (arith, c .before .before .before .before .pre .0), left-ready (c .before .before .before .before .pre .1) (c .before .if1 .taken))
+read-side-read-inner-requires t c κs = (
+  omega (arith, c .before .before .before .before .pre .0),
+  left-ready (c .before .before .before .before .pre .1)
+      (c .before .if1 .taken),
+)
 
 read-side-same-length : (t : ℕ) → read-side-lts.Need-same-length (
   read-inner-below t,
@@ -197,15 +221,26 @@ read-side-add-read-inner : (t : ℕ) → read-side-lts.Need-add-read-inner (
   read-inner-below t,
   read-inner.Post,
 ) (read-side-at t) read-side.Post
-read-side-add-read-inner t c = omega (arith, right-there (c .before .before .before .before .before .pre .1) (c .before .before .if1 .left), c .before .before .before .before .before .good)
+read-side-add-read-inner t c = omega (
+  arith,
+  right-there (c .before .before .before .before .before .pre .1) (c
+      .before .before .if1 .left),
+  c .before .before .before .before .before .good,
+)
 
 read-side-read-inner-requires-2 : (t : ℕ) → read-side-lts.Need-read-inner-requires-2 (
   read-inner-below t,
   read-inner.Post,
 ) (read-side-at t) read-side.Post
 read-side-read-inner-requires-2 t c κs = (
-  omega (arith, c .before .before .before .before .before .before .pre .0, right-there (c .before .before .before .before .before .before .pre .1) (c .before .before .before .if1 .left)),
-  right-ready (c .before .before .before .before .before .before .pre .1) (c .before .before .before .if1 .left) (c .before .if2 .taken),
+  omega (
+    arith,
+    c .before .before .before .before .before .before .pre .0,
+    right-there (c .before .before .before
+        .before .before .before .pre .1) (c .before .before .before .if1 .left),
+  ),
+  right-ready (c .before .before .before .before .before .before .pre .1) (c .before .before .before .if1 .left) (c
+      .before .if2 .taken),
 )
 
 read-side-same-length-2 : (t : ℕ) → read-side-lts.Need-same-length-2 (
@@ -224,7 +259,8 @@ read-side-returns-2 t c =
     let args = c .before .before .before .before .before .before .before .before .before .args in
     c .before .before .read-inner2 .ensures
     ∙ ap (λ (cs : List Class). sets (args .classes .now) (args .caret .0) (classBytes cs))
-    (right-classes (c .before .before .before .before .before .before .before .before .before .pre .1) (c .before .before .before .before .before .before .if1 .left) (c .before .before .before .before .if2 .taken))
+    (right-classes (c .before .before .before .before .before .before .before .before .before .pre .1) (c .before
+    .before .before .before .before .before .if1 .left) (c .before .before .before .before .if2 .taken))
 
 read-side-returns-3 :
     (t : ℕ) →

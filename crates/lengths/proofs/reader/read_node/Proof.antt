@@ -17,22 +17,36 @@ returns : tie.Need-returns
 returns c = node-opens (c .before .before .before .before .pre) _ (c .if1 .taken) refl refl
 
 returns-2 : tie.Need-returns-2
-returns-2 c = node-closes (c .before .before .before .before .before .pre) _ (node-zero (c .before .before .before .before .before .pre .readable) (omega arith) (c .before .if1 .left)) (c .if2 .taken) refl refl
+returns-2 c = node-closes (c .before .before .before .before .before .pre) _ (node-zero (c .before .before .before
+    .before .before .pre .readable) (omega arith) (c .before .if1 .left)) (c .if2 .taken) refl refl
 
 cast-k : tie.Need-cast-k
 cast-k c = search needs
 
 add-inside : tie.Need-add-inside
-add-inside c = omega (arith, next-there (c .before .before .before .before .before .before .pre) (node-zero (c .before .before .before .before .before .before .pre .readable) (omega arith) (c .before .before .if1 .left)) (two-pending (c .before .before .before .before .before .before .pre .some) (c .before .if2 .left)), c .before .before .before .before .before .before .good)
+add-inside c = omega (
+  arith,
+  next-there (c .before .before .before .before .before .before .pre) (node-zero (c .before
+      .before .before .before .before .before .pre .readable) (omega arith) (c .before .before .if1 .left)) (two-pending
+      (c .before .before .before .before .before .before .pre .some) (c .before .if2 .left)),
+  c .before .before .before
+      .before .before .before .good,
+)
 
 shared-slice-read-inside : tie.Need-shared-slice-read-inside
-shared-slice-read-inside c = next-there (c .before .before .before .before .before .before .before .pre) (node-zero (c .before .before .before .before .before .before .before .pre .readable) (omega arith) (c .before .before .before .if1 .left)) (two-pending (c .before .before .before .before .before .before .before .pre .some) (c .before .before .if2 .left))
+shared-slice-read-inside c = next-there (c .before .before .before .before .before .before .before .pre) (node-zero (c
+    .before .before .before .before .before .before .before .pre .readable) (omega arith) (c .before .before .before
+    .if1 .left)) (two-pending (c .before .before .before .before .before .before .before .pre .some) (c .before
+    .before .if2 .left))
 
 inside-requires : tie.Need-inside-requires
 inside-requires c κs = search needs
 
 slice-write-classes : tie.Need-slice-write-classes
-slice-write-classes c = class-room (c .before .before .before .before .before .before .before .before .pre) (node-zero (c .before .before .before .before .before .before .before .before .pre .readable) (omega arith) (c .before .before .before .before .if1 .left)) (two-pending (c .before .before .before .before .before .before .before .before .pre .some) (c .before .before .before .if2 .left))
+slice-write-classes c = class-room (c .before .before .before .before .before .before .before .before .pre) (node-zero
+    (c .before .before .before .before .before .before .before .before .pre .readable) (omega arith) (c .before
+    .before .before .before .if1 .left)) (two-pending (c .before .before .before .before .before .before .before
+    .before .pre .some) (c .before .before .before .if2 .left))
 
 add-t15 : tie.Need-add-t15
 add-t15 c = search needs
@@ -44,7 +58,11 @@ same-length : tie.Need-same-length
 same-length c = search needs
 
 returns-3 : tie.Need-returns-3
-returns-3 c = node-inside (c .before .before .before .before .before .before .before .before .before .pre) (node-zero (c .before .before .before .before .before .before .before .before .before .pre .readable) (omega arith) (c .before .before .before .before .before .if1 .left)) (two-pending (c .before .before .before .before .before .before .before .before .before .pre .some) (c .before .before .before .before .if2 .left)) _ _ (c .before .inside .ensures) refl refl
+returns-3 c = node-inside (c .before .before .before .before .before .before .before .before .before .pre) (node-zero
+    (c .before .before .before .before .before .before .before .before .before .pre .readable) (omega arith) (c
+    .before .before .before .before .before .if1 .left)) (two-pending (c .before .before .before .before .before
+    .before .before .before .before .pre .some) (c .before .before .before .before .if2 .left)) _ _ (c .before .inside
+    .ensures) refl refl
 
 pub read-node-spec : {M : Type 1} → statement M
 read-node-spec =

@@ -19,13 +19,16 @@ loop-holds : tie.Need-loop-holds Inv-loop μ-loop
 loop-holds c = amidst-start _ _ _ _
 
 read-node-requires : tie.Need-read-node-requires Inv-loop μ-loop
-read-node-requires c κs = amidst-ready (c .before .before .loop .inv) (c .before .before .before .before .before .pre) (c .before .loop-test .taken)
+read-node-requires c κs = amidst-ready (c .before .before .loop .inv) (c .before .before .before .before .before .pre)
+    (c .before .loop-test .taken)
 
 add-p : tie.Need-add-p Inv-loop μ-loop
 add-p c =
     omega (
       arith,
-      node-there (amidst-ready (c .before .before .before .before .before .loop .inv) (c .before .before .before .before .before .before .before .before .pre) (c .before .before .before .before .loop-test .taken) .readable) (omega arith),
+      node-there (amidst-ready (c .before .before .before .before .before .loop .inv) (c .before .before .before
+          .before .before .before .before .before .pre) (c .before .before .before .before .loop-test .taken)
+          .readable) (omega arith),
       c .before .before .before .before .before .before .before .before .good,
     )
 
@@ -33,11 +36,14 @@ loop-less : tie.Need-loop-less Inv-loop μ-loop
 loop-less c =
     omega (
       arith,
-      node-there (amidst-ready (c .before .before .before .before .before .loop .inv) (c .before .before .before .before .before .before .before .before .pre) (c .before .before .before .before .loop-test .taken) .readable) (omega arith),
+      node-there (amidst-ready (c .before .before .before .before .before .loop .inv) (c .before .before .before
+          .before .before .before .before .before .pre) (c .before .before .before .before .loop-test .taken)
+          .readable) (omega arith),
     )
 
 loop-again : tie.Need-loop-again Inv-loop μ-loop
-loop-again c = amidst-more (c .before .before .before .before .before .loop .inv) (c .before .before .before .before .loop-test .taken) (c .before .before .read-node .ensures)
+loop-again c = amidst-more (c .before .before .before .before .before .loop .inv) (c .before .before .before .before
+    .loop-test .taken) (c .before .before .read-node .ensures)
 
 same-length : tie.Need-same-length Inv-loop μ-loop
 same-length c = writing-length (c .before .loop .inv .writing 0)

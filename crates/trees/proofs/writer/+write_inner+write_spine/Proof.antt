@@ -58,8 +58,10 @@ write-inner-write-spine-requires : (t : ℕ) → write-inner-lts.Need-write-spin
   write-spine.Post,
 ) (write-inner-at t) write-inner.Post
 write-inner-write-spine-requires t c κs =
-    let w = c .before .before .before .write-subtree .ensures in
-    (omega (arith, c .before .before .before .before .before .before .before .pre .0, w .writing .ends, w .on), rest-room w (c .before .before .before .before .before .before .before .pre .1))
+    let w = c .before .before .before .write-subtree .ensures in (
+      omega (arith, c .before .before .before .before .before .before .before .pre .0, w .writing .ends, w .on),
+      rest-room w (c .before .before .before .before .before .before .before .pre .1),
+    )
 
 write-inner-same-length : (t : ℕ) → write-inner-lts.Need-same-length (
   write-subtree-reads.Asked,
@@ -67,7 +69,8 @@ write-inner-same-length : (t : ℕ) → write-inner-lts.Need-same-length (
   write-spine-below t,
   write-spine.Post,
 ) (write-inner-at t) write-inner.Post
-write-inner-same-length t c = c .before .before .write-spine .kept .1 .1 .0 ∙ c .before .before .before .before .before .before .write-subtree .kept .1 .1 .0
+write-inner-same-length t c = c .before .before .write-spine .kept .1 .1 .0 ∙ c .before .before .before .before
+    .before .before .write-subtree .kept .1 .1 .0
 
 write-inner-returns : (t : ℕ) → write-inner-lts.Need-returns (
   write-subtree-reads.Asked,
@@ -75,7 +78,8 @@ write-inner-returns : (t : ℕ) → write-inner-lts.Need-returns (
   write-spine-below t,
   write-spine.Post,
 ) (write-inner-at t) write-inner.Post
-write-inner-returns t c = write-rest (c .before .before .before .before .before .before .write-subtree .ensures .writing) (c .before .before .write-spine .ensures)
+write-inner-returns t c = write-rest (c .before .before .before .before .before .before .write-subtree .ensures
+    .writing) (c .before .before .write-spine .ensures)
 
 write-spine-cast-if1 : (t : ℕ) → write-spine-lts.Need-cast-if1 (
   write-inner-below t,
@@ -92,7 +96,12 @@ write-spine-slice-write-shape : (t : ℕ) → write-spine-lts.Need-slice-write-s
   put-leaf-reads.Learnt,
 ) (write-spine-at t) write-spine.Post
 write-spine-slice-write-shape t c =
-    omega (arith, spine-length (c .before .before .before .before .pre .1) (c .if1 .taken), c .before .before .before .before .pre .1 .room)
+    omega (
+      arith,
+      spine-length (c .before .before .before .before .pre .1) (c .if1 .taken),
+      c .before .before .before
+          .before .pre .1 .room,
+    )
 
 write-spine-add-write-inner : (t : ℕ) → write-spine-lts.Need-add-write-inner (
   write-inner-below t,
@@ -101,7 +110,13 @@ write-spine-add-write-inner : (t : ℕ) → write-spine-lts.Need-add-write-inner
   put-leaf-reads.Learnt,
 ) (write-spine-at t) write-spine.Post
 write-spine-add-write-inner t c =
-    omega (arith, spine-length (c .before .before .before .before .before .pre .1) (c .before .if1 .taken), c .before .before .before .before .before .pre .1 .room, c .before .before .before .before .before .good)
+    omega (
+      arith,
+      spine-length (c .before .before .before .before .before .pre .1) (c .before .if1 .taken),
+      c .before
+          .before .before .before .before .pre .1 .room,
+      c .before .before .before .before .before .good,
+    )
 
 write-spine-write-inner-requires : (t : ℕ) → write-spine-lts.Need-write-inner-requires (
   write-inner-below t,
@@ -109,8 +124,16 @@ write-spine-write-inner-requires : (t : ℕ) → write-spine-lts.Need-write-inne
   put-leaf-reads.Asked,
   put-leaf-reads.Learnt,
 ) (write-spine-at t) write-spine.Post
-write-spine-write-inner-requires t c κs =
-    (omega (arith, spine-length (c .before .before .before .before .before .pre .1) (c .before .if1 .taken), c .before .before .before .before .before .pre .0), spine-room (c .before .before .before .before .before .pre .1) (c .before .if1 .taken))
+write-spine-write-inner-requires t c κs = (
+  omega (
+    arith,
+    spine-length (c .before .before .before .before .before .pre .1) (c .before .if1 .taken),
+    c .before
+        .before .before .before .before .pre .0,
+  ),
+  spine-room (c .before .before .before .before .before .pre .1) (c
+      .before .if1 .taken),
+)
 
 write-spine-same-length : (t : ℕ) → write-spine-lts.Need-same-length (
   write-inner-below t,
@@ -119,7 +142,9 @@ write-spine-same-length : (t : ℕ) → write-spine-lts.Need-same-length (
   put-leaf-reads.Learnt,
 ) (write-spine-at t) write-spine.Post
 write-spine-same-length t c =
-    c .before .before .write-inner .kept .1 .1 .0 ∙ length-set (c .before .before .before .before .before .before .before .before .args .shape .now) (c .before .before .before .before .before .before .before .before .args .at) 1
+    c .before .before .write-inner .kept .1 .1 .0 ∙ length-set (c .before .before .before .before .before .before
+    .before .before .args .shape .now) (c .before .before .before .before .before .before .before .before .args
+    .at) 1
 
 write-spine-returns : (t : ℕ) → write-spine-lts.Need-returns (
   write-inner-below t,
@@ -127,7 +152,8 @@ write-spine-returns : (t : ℕ) → write-spine-lts.Need-returns (
   put-leaf-reads.Asked,
   put-leaf-reads.Learnt,
 ) (write-spine-at t) write-spine.Post
-write-spine-returns t c = spine-wrote (c .before .before .before .before .before .before .before .before .pre .1) (c .before .before .before .before .if1 .taken) (c .before .before .write-inner .ensures)
+write-spine-returns t c = spine-wrote (c .before .before .before .before .before .before .before .before .pre .1) (c
+    .before .before .before .before .if1 .taken) (c .before .before .write-inner .ensures)
 
 write-spine-put-leaf-requires : (t : ℕ) → write-spine-lts.Need-put-leaf-requires (
   write-inner-below t,
@@ -136,7 +162,12 @@ write-spine-put-leaf-requires : (t : ℕ) → write-spine-lts.Need-put-leaf-requ
   put-leaf-reads.Learnt,
 ) (write-spine-at t) write-spine.Post
 write-spine-put-leaf-requires t c κs =
-    omega (arith, last-length (c .before .before .before .before .before .pre .1) (c .before .if1 .left), c .before .before .before .before .before .pre .1 .room)
+    omega (
+      arith,
+      last-length (c .before .before .before .before .before .pre .1) (c .before .if1 .left),
+      c .before
+          .before .before .before .before .pre .1 .room,
+    )
 
 write-spine-same-length-2 : (t : ℕ) → write-spine-lts.Need-same-length-2 (
   write-inner-below t,
@@ -153,7 +184,9 @@ write-spine-returns-2 : (t : ℕ) → write-spine-lts.Need-returns-2 (
   put-leaf-reads.Learnt,
 ) (write-spine-at t) write-spine.Post
 write-spine-returns-2 t c =
-    wrote-same (sym (nodes-end (c .before .before .before .before .before .before .before .before .args .e .now) (c .before .before .before .before .before .before .before .before .args .leaf .0) (c .before .before .before .before .if1 .left))) (c .before .before .put-leaf .ensures)
+    wrote-same (sym (nodes-end (c .before .before .before .before .before .before .before .before .args .e .now) (c
+    .before .before .before .before .before .before .before .before .args .leaf .0) (c .before .before .before
+    .before .if1 .left))) (c .before .before .put-leaf .ensures)
 
 pub +write-inner+write-spine-spec : {M : Type 1} → statement M
 +write-inner+write-spine-spec = close μ-write-inner μ-write-spine (λ t. write-inner-lts.spec (

@@ -23,11 +23,19 @@ leaf-exponent-requires : tie.Need-leaf-exponent-requires Inv-loop μ-loop
 leaf-exponent-requires c κs = tt
 
 put-leaf-requires : tie.Need-put-leaf-requires Inv-loop μ-loop
-put-leaf-requires c κs = leaf-room (c .before .before .before .loop .inv) (c .before .before .before .before .before .before .pre) _ (c .before .before .loop-test .taken) (c .before .leaf-exponent .ensures)
+put-leaf-requires c κs = leaf-room (c .before .before .before .loop .inv) (c .before .before .before .before .before
+    .before .pre) _ (c .before .before .loop-test .taken) (c .before .leaf-exponent .ensures)
 
 add-k : tie.Need-add-k Inv-loop μ-loop
 add-k c =
-    omega (arith, c .before .before .before .before .before .before .loop .inv .early, c .before .before .before .before .before .before .loop .inv .writing .ends, c .before .before .before .before .before .before .before .before .before .pre .small)
+    omega (
+      arith,
+      c .before .before .before .before .before .before .loop .inv .early,
+      c .before .before .before
+          .before .before .before .loop .inv .writing .ends,
+      c .before .before .before .before .before .before .before
+          .before .before .pre .small,
+    )
 
 sub-pending : tie.Need-sub-pending Inv-loop μ-loop
 sub-pending c = omega arith
@@ -36,7 +44,8 @@ add-pending : tie.Need-add-pending Inv-loop μ-loop
 add-pending c =
     omega (
       arith,
-      pending-bound (c .before .before .before .before .before .before .loop .inv) (c .before .before .before .before .before .before .before .before .before .pre) _ (c .before .before .before .before .before .loop-test .taken)
+      pending-bound (c .before .before .before .before .before .before .loop .inv) (c .before .before .before .before
+          .before .before .before .before .before .pre) _ (c .before .before .before .before .before .loop-test .taken)
           (c .before .before .before .before .leaf-exponent .ensures),
       c .before .before .before .before .before .before .before .before .before .good,
       writing-length (c .before .before .before .before .before .before .loop .inv .writing),
@@ -48,14 +57,17 @@ loop-less c =
       arith,
       c .before .before .put-leaf .ensures .ends,
       own-length (c .before .before .before .before .leaf-exponent .result),
-      leaf-room (c .before .before .before .before .before .before .loop .inv) (c .before .before .before .before .before .before .before .before .before .pre) _ (c .before .before .before .before .before .loop-test .taken)
+      leaf-room (c .before .before .before .before .before .before .loop .inv) (c .before .before .before .before
+          .before .before .before .before .before .pre) _ (c .before .before .before .before .before .loop-test .taken)
           (c .before .before .before .before .leaf-exponent .ensures),
       writing-length (c .before .before .before .before .before .before .loop .inv .writing),
     )
 
 loop-again : tie.Need-loop-again Inv-loop μ-loop
 loop-again c =
-    pending-more (c .before .before .before .before .before .before .loop .inv) (c .before .before .before .before .before .before .before .before .before .pre) _ (c .before .before .before .before .before .loop-test .taken) (c .before .before .before .before .leaf-exponent .ensures)
+    pending-more (c .before .before .before .before .before .before .loop .inv) (c .before .before .before .before
+    .before .before .before .before .before .pre) _ (c .before .before .before .before .before .loop-test .taken)
+    (c .before .before .before .before .leaf-exponent .ensures)
     (c .before .before .put-leaf .ensures)
 
 same-length : tie.Need-same-length Inv-loop μ-loop
