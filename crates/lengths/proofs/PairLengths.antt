@@ -20,7 +20,6 @@ use Rattle.trees.specs.declared.Pairing.{Pairing}
 use Rattle.trees.specs.declared.Pairing.the-variants.{Carets, Refused, Unfit}
 use Rattle.trees.proofs.Pairing as Answer
 use Rattle.trees.proofs.PairAnswers.{Judged, unfit, fit, tables-judged, large-buffers}
-use Rattle.trees.proofs.Needed.{larger-left, larger-right}
 use Rattle.trees.proofs.Built.{tree-carets}
 use Rattle.trees.proofs.Shapes.{shape-length, shape-exact}
 use Rattle.lengths.specs.Classes.{Class}
@@ -91,10 +90,10 @@ module _ {b a entry minus plus : List ℕ} {r : Pairing} (w : WrotePair b a entr
 
     front-minus : take (shapeSize n) minus ≡ shape (treeOf n a)
     front-minus =
-        front a minus (omega (arith, counted .0, larger-right (needed 0 b) (needed 0 a))) minus-holds
+        front a minus (omega (arith, counted .0)) minus-holds
 
     front-plus : take (shapeSize n) plus ≡ shape (treeOf n b)
-    front-plus = front b plus (omega (arith, counted .0, larger-left (needed 0 b) (needed 0 a))) plus-holds
+    front-plus = front b plus (omega (arith, counted .0)) plus-holds
 
     pub pair-shaped : PairShaped minus plus n
     pair-shaped = record {

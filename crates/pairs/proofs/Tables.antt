@@ -2,7 +2,7 @@
 -- Assumes nothing.
 use mathlib.Core.Path.{_≡_, refl, sym, ap, ap₂, _∙_}
 use mathlib.Core.List.{List}
-use Prim.Native.Nat.{ℕ, zero, suc, _<_, _≤_}
+use Prim.Native.Nat.{ℕ, zero, suc, _<_, _≤_, max}
 use native.Mathlib.Omega.{arith}
 use native.Mathlib.Decide.{decLt}
 use lib.ListN.{length, getD, replicate, length-replicate}
@@ -17,7 +17,7 @@ use Rattle.group.proofs.Reduced.{Canonical}
 use Rattle.group.proofs.Sizes.{trimmed-levels}
 use Rattle.refusals.specs.Outcomes.{accepted}
 use Rattle.records.specs.Format.{Within}
-use Rattle.trees.specs.Building.{larger, treeOf}
+use Rattle.trees.specs.Building.{treeOf}
 use Rattle.trees.specs.Pairs.{caretsOfSides, caretsOf, maxCarets}
 use Rattle.trees.specs.Writing.{tableCarets}
 use Rattle.trees.proofs.Rows.{tree-same}
@@ -71,7 +71,7 @@ module _ (f : Form) (w : Within f) {z : List ℕ} (c : Cleared z) where
 
   same-carets : caretsOfSides (tableOf bSide f z) (tableOf aSide f z) ≡ caretsOf f
   same-carets =
-      ap₂ larger (needed-same (tableOf bSide f z) (exponents bSide f) (table-same bSide))
+      ap₂ max (needed-same (tableOf bSide f z) (exponents bSide f) (table-same bSide))
       (needed-same (tableOf aSide f z) (exponents aSide f) (table-same aSide))
 
   -- The tree of a table is that of the side.

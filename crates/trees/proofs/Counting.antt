@@ -1,31 +1,19 @@
 -- The carets that a table of exponents needs, counted from its end: the laws of that loop. Assumes nothing.
 use mathlib.Core.Path.{_≡_, refl, sym, _∙_, ap}
 use mathlib.Core.List.{List, _∷_}
-use Prim.Native.Nat.{ℕ, zero, suc, _+_, _*_, _-_, _<_, _≤_}
+use Prim.Native.Nat.{ℕ, zero, suc, _+_, _*_, _-_, _<_, _≤_, max}
 use native.Mathlib.Omega.{arith}
 use lib.ListN.{length, drop, getD}
 use lib.Seq.{drop-cons, drop-length}
 use Rattle.lists.specs.Entries.{total}
-use Rattle.trees.specs.Building.{larger, needed, raised}
-
--- The larger of two numbers is one of them.
-pub larger-second : (m n : ℕ) → m < n → n ≡ larger m n
-larger-second zero n h = refl
-larger-second (suc m) zero h = absurd (omega arith)
-larger-second (suc m) (suc n) h = ap suc (larger-second m n (omega arith))
-
-pub larger-first : (m n : ℕ) → n ≤ m → m ≡ larger m n
-larger-first zero zero h = refl
-larger-first zero (suc n) h = absurd (omega arith)
-larger-first (suc m) zero h = refl
-larger-first (suc m) (suc n) h = ap suc (larger-first m n (omega arith))
+use Rattle.trees.specs.Building.{needed, raised}
 
 -- An exponent above 0.
-pub raised-some : (i e sum behind r s : ℕ) → 0 < e → s ≡ i + sum + 1 → r ≡ larger s behind → r ≡ raised i e sum behind
+pub raised-some : (i e sum behind r s : ℕ) → 0 < e → s ≡ i + sum + 1 → r ≡ max s behind → r ≡ raised i e sum behind
 raised-some i zero sum behind r s h es er = absurd (omega arith)
 raised-some i (suc e) sum behind r s h es er =
     let same : s ≡ suc (i + sum) = omega arith in
-    er ∙ ap (λ (k : ℕ). larger k behind) same
+    er ∙ ap (λ (k : ℕ). max k behind) same
 
 needed-cons : (i e : ℕ) (es : List ℕ) → needed i (e ∷ es) ≡ raised i e (e + total es) (needed (suc i) es)
 needed-cons i zero es = refl

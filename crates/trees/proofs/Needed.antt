@@ -11,24 +11,7 @@ use native.Mathlib.Decide.{decLe}
 use lib.ListN.{length, getD, drop, List·getD-eq-default}
 use Rattle.lists.specs.Entries.{total, SameEntries}
 use Rattle.lists.proofs.Totals.{drop-total, drop-total-same, total-zeros}
-use Rattle.trees.specs.Building.{larger, needed}
-
--- The larger of two numbers is at least each, and at most every number that is at least both.
-pub larger-left : (m n : ℕ) → m ≤ larger m n
-larger-left zero n = omega arith
-larger-left (suc m) zero = omega arith
-larger-left (suc m) (suc n) = omega (arith, larger-left m n)
-
-pub larger-right : (m n : ℕ) → n ≤ larger m n
-larger-right zero n = omega arith
-larger-right (suc m) zero = omega arith
-larger-right (suc m) (suc n) = omega (arith, larger-right m n)
-
-pub larger-least : (m n k : ℕ) → m ≤ k → n ≤ k → larger m n ≤ k
-larger-least zero n k p q = q
-larger-least (suc m) zero k p q = p
-larger-least (suc m) (suc n) zero p q = absurd (omega arith)
-larger-least (suc m) (suc n) (suc k) p q = omega (arith, larger-least m n k (omega arith) (omega arith))
+use Rattle.trees.specs.Building.{needed}
 
 -- n is above i + e_i + e_(i+1) + … for each i with e_i above 0.
 abbrev pub Holds : ℕ → List ℕ → Type 0
@@ -42,25 +25,16 @@ needed-least : (k n : ℕ) (es : List ℕ) → HoldsFrom k n es → needed k es 
 needed-least k n [] h = omega arith
 needed-least k n (zero ∷ es) h = needed-least (suc k) n es (λ i p. omega (arith, h (suc i) p))
 needed-least k n (suc e ∷ es) h =
-    larger-least
-    (suc (k + (suc e + total es)))
-    (needed (suc k) es)
-    n
-    (omega (arith, h 0 (omega arith)))
-    (needed-least (suc k) n es (λ i p. omega (arith, h (suc i) p)))
+    omega (arith, h 0 (omega arith), needed-least (suc k) n es (λ i p. omega (arith, h (suc i) p)))
 
 needed-above : (k n : ℕ) (es : List ℕ) → needed k es ≤ n → HoldsFrom k n es
 needed-above k n [] h i p = absurd (omega arith)
 needed-above k n (zero ∷ es) h zero p = absurd (omega arith)
 needed-above k n (zero ∷ es) h (suc i) p = omega (arith, needed-above (suc k) n es h i p)
 needed-above k n (suc e ∷ es) h zero p =
-    omega (arith, larger-left (suc (k + (suc e + total es))) (needed (suc k) es))
+    omega arith
 needed-above k n (suc e ∷ es) h (suc i) p =
-    omega (
-      arith,
-      needed-above (suc k) n es
-          (omega (arith, larger-right (suc (k + (suc e + total es))) (needed (suc k) es))) i p,
-    )
+    omega (arith, needed-above (suc k) n es (omega arith) i p)
 
 -- It is the least number that holds.
 pub needed-holds : (n : ℕ) (es : List ℕ) → Holds n es ↔ (needed 0 es ≤ n)

@@ -12,12 +12,11 @@ use Rattle.refusals.specs.Outcomes.{accepted, refused}
 use Rattle.refusals.specs.declared.Refusal.the-variants.{ShortBuffer}
 use Rattle.trees.specs.declared.Pairing.{Pairing}
 use Rattle.trees.specs.declared.Pairing.the-variants.{Carets, Refused, Unfit}
-use Rattle.trees.specs.Building.{needed, treeOf}
+use Rattle.trees.specs.Building.{treeOf}
 use Rattle.trees.specs.Pairs.{caretsOfSides, maxCarets}
 use Rattle.trees.specs.Shapes.{shape, shapeSize}
 use Rattle.trees.specs.Writing.{pairingOf, tableCarets, pairCarets, WrotePair}
 use Rattle.trees.specs.Steps.{Fits}
-use Rattle.trees.proofs.Needed.{larger-left, larger-right}
 
 refuses : {b a m p : List ℕ} {number place : ℕ} {r : Pairing} → pairCarets b a (length m) (length p) ≡ refused number
     place
@@ -41,7 +40,7 @@ pub record Counts (b a : List ℕ) (n : ℕ) : Type 0 where
 pub fits-minus : {b a m : List ℕ} {n : ℕ} → Counts b a n → n ≤ maxCarets → shapeSize n ≤ length m → Fits a n m
 fits-minus {b} {a} c few room = record {
   entries = omega (arith, c .a-size);
-  enough = omega (arith, c .carets, larger-right (needed 0 b) (needed 0 a));
+  enough = omega (arith, c .carets);
   small = few;
   room = room;
 }
@@ -49,7 +48,7 @@ fits-minus {b} {a} c few room = record {
 pub fits-plus : {b a p : List ℕ} {n : ℕ} → Counts b a n → n ≤ maxCarets → shapeSize n ≤ length p → Fits b n p
 fits-plus {b} {a} c few room = record {
   entries = omega (arith, c .b-size);
-  enough = omega (arith, c .carets, larger-left (needed 0 b) (needed 0 a));
+  enough = omega (arith, c .carets);
   small = few;
   room = room;
 }

@@ -12,19 +12,19 @@ use Rattle.trees.specs.Building.{needed, treeOf}
 use Rattle.trees.specs.Pairs.{caretsOf, minusTree, plusTree, Pair, SmallestPair}
 use Rattle.trees.proofs.Exponents.{side-entries, side-exponents}
 use Rattle.trees.proofs.Rows.{tree-unique}
-use Rattle.trees.proofs.Needed.{larger-left, larger-right, larger-least, needed-bound}
+use Rattle.trees.proofs.Needed.{needed-bound}
 use Rattle.trees.proofs.Built.{tree-carets, tree-exponents, tree-least}
 
 -- N is at least what each side needs, and at most what is enough for both.
 pub a-needed : (f : Form) → needed 0 (exponents aSide f) ≤ caretsOf f
-a-needed f = larger-right (needed 0 (exponents bSide f)) (needed 0 (exponents aSide f))
+a-needed f = omega arith
 
 pub b-needed : (f : Form) → needed 0 (exponents bSide f) ≤ caretsOf f
-b-needed f = larger-left (needed 0 (exponents bSide f)) (needed 0 (exponents aSide f))
+b-needed f = omega arith
 
 pub both-needed : (f : Form) (n : ℕ) → needed 0 (exponents bSide f) ≤ n → needed 0 (exponents aSide f) ≤ n
     → caretsOf f ≤ n
-both-needed f n = larger-least (needed 0 (exponents bSide f)) (needed 0 (exponents aSide f)) n
+both-needed f n h k = omega arith
 
 -- T− and T+ have N carets.
 pub pair-carets : (f : Form) → (carets (minusTree f) ≡ caretsOf f) × (carets (plusTree f) ≡ caretsOf f)

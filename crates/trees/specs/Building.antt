@@ -3,26 +3,20 @@
 -- This is how the tree is worked out; that it is the tree with these exponents is claimed apart from this.
 -- Assumes nothing.
 use mathlib.Core.List.{List, [], _∷_}
-use Prim.Native.Nat.{ℕ, zero, suc, _+_, _-_}
+use Prim.Native.Nat.{ℕ, zero, suc, _+_, _-_, max}
 use Rattle.lists.specs.Entries.{total}
 use Rattle.trees.specs.Trees.{Tree, leaf, caret}
-
--- The larger of two numbers.
-abbrev pub larger : ℕ → ℕ → ℕ
-larger zero n = n
-larger (suc m) zero = suc m
-larger (suc m) (suc n) = suc (larger m n)
 
 -- The least number of carets above i + e_i + e_(i+1) + … + e_n for each e_i above 0, the first index being i.
 abbrev pub needed : ℕ → List ℕ → ℕ
 needed i [] = 0
 needed i (zero ∷ es) = needed (suc i) es
-needed i (suc e ∷ es) = larger (suc (i + (suc e + total es))) (needed (suc i) es)
+needed i (suc e ∷ es) = max (suc (i + (suc e + total es))) (needed (suc i) es)
 
 -- The same, one exponent in front of the others: `sum` is that of all, `behind` what the others need.
 abbrev pub raised : (i exponent sum behind : ℕ) → ℕ
 raised i zero sum behind = behind
-raised i (suc e) sum behind = larger (suc (i + sum)) behind
+raised i (suc e) sum behind = max (suc (i + sum)) behind
 
 -- A row of trees has single leaves behind its last.
 abbrev pub firstTree : List Tree → Tree

@@ -5,18 +5,18 @@
 -- Assumes nothing.
 use mathlib.Core.Path.{_≡_}
 use mathlib.Core.List.{List, [], _∷_, _++_}
-use Prim.Native.Nat.{ℕ, suc, _+_, _*_, _≤_}
+use Prim.Native.Nat.{ℕ, suc, _+_, _*_, _≤_, max}
 use Rattle.group.specs.Points.{Digit, 𝟎, 𝟏, below1, SamePoint}
 use Rattle.group.specs.Maps.{mapOf}
 use Rattle.group.specs.Forms.{bSide, aSide, Form, exponent, exponents, letters}
 use Rattle.group.specs.Limits.{limit}
 use Rattle.trees.specs.Trees.{Tree, carets, Address, Leaf}
 use Rattle.trees.specs.Exponents.{HasExponents}
-use Rattle.trees.specs.Building.{larger, needed, treeOf}
+use Rattle.trees.specs.Building.{needed, treeOf}
 
 -- The carets that two sides' exponents need, the same number for both.
 abbrev pub caretsOfSides : (b a : List ℕ) → ℕ
-caretsOfSides b a = larger (needed 0 b) (needed 0 a)
+caretsOfSides b a = max (needed 0 b) (needed 0 a)
 
 -- N of a form.
 abbrev pub caretsOf : Form → ℕ

@@ -1,14 +1,14 @@
 // The number of carets of a tree pair.
 ghost use mathlib.Core.Path.{_≡_};
-ghost use Prim.Native.Nat.{_+_, _≤_};
+ghost use Prim.Native.Nat.{_≤_, max};
 ghost use lib.ListN.{length};
-ghost use Rattle.trees.specs.Building.{larger as largerOf, needed as neededFrom, raised as raisedBy};
+ghost use Rattle.trees.specs.Building.{needed as neededFrom, raised as raisedBy};
 ghost use Rattle.trees.specs.Pairs.{maxCarets, caretsOfSides};
 use refusals::GeneratorIndex;
 
 // The larger of two numbers.
 fn larger(m: usize, n: usize) -> usize
-    ensures { λ r. ⌜ r ≡ largerOf m n ⌝ }
+    ensures { λ r. ⌜ r ≡ max m n ⌝ }
 {
     if m < n { n } else { m }
 }

@@ -1,7 +1,7 @@
 -- `carets` meets its contract. Assumes nothing.
 use mathlib.Core.Path.{ap₂, _∙_}
+use Prim.Native.Nat.{max}
 use borrow.Author.Needs.{needs}
-use Rattle.trees.specs.Building.{larger}
 use Rattle.trees.proofs.count.carets.Statement.{statement}
 use Rattle.trees.proofs.count.carets.Tie as tie
 
@@ -15,7 +15,7 @@ larger-requires : tie.Need-larger-requires
 larger-requires c κs = search needs
 
 returns : tie.Need-returns
-returns c = c .larger .ensures ∙ ap₂ larger (c .before .before .needed .ensures) (c .before .needed2 .ensures)
+returns c = c .larger .ensures ∙ ap₂ max (c .before .before .needed .ensures) (c .before .needed2 .ensures)
 
 pub carets-spec : {M : Type 1} → statement M
 carets-spec = tie.close (tie.spec needed-requires needed-requires-2 larger-requires returns)

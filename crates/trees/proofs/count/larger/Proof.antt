@@ -1,14 +1,13 @@
 -- `larger` meets its contract. Assumes nothing.
 use native.Mathlib.Omega.{arith}
-use Rattle.trees.proofs.Counting.{larger-first, larger-second}
 use Rattle.trees.proofs.count.larger.Statement.{statement}
 use Rattle.trees.proofs.count.larger.Tie as tie
 
 returns : tie.Need-returns
-returns c = larger-second _ _ (c .if1 .taken)
+returns c = omega arith
 
 returns-2 : tie.Need-returns-2
-returns-2 c = larger-first _ _ (omega (arith, c .if1 .left))
+returns-2 c = omega arith
 
 pub larger-spec : {M : Type 1} → statement M
 larger-spec = tie.close (tie.spec returns returns-2)
