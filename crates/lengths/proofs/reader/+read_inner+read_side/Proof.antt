@@ -46,7 +46,9 @@ abbrev read-side-below : ℕ → In 2 read-side-kinds.ps
 read-side-below t =
     and 2 read-side-kinds.ps (falls 2 read-side-kinds.ps _<_ μ-read-side t) read-side.Pre
 
-read-inner-read-subtree-requires : (t : ℕ) → read-inner-lts.Need-read-subtree-requires (
+-- What `read_inner` calls.
+abbrev read-inner-calls : ℕ → read-inner-lts.Claims
+read-inner-calls t = (
   read-subtree-reads.Asked,
   read-subtree-reads.Learnt,
   side-class-reads.Asked,
@@ -55,57 +57,26 @@ read-inner-read-subtree-requires : (t : ℕ) → read-inner-lts.Need-read-subtre
   fewer-reads.Learnt,
   read-side-below t,
   read-side.Post,
-) (read-inner-at t) read-inner.Post
+)
+
+read-inner-read-subtree-requires : (t : ℕ)
+    → read-inner-lts.Need-read-subtree-requires (read-inner-calls t) (read-inner-at t) read-inner.Post
 read-inner-read-subtree-requires t c κs = side-hanging (c .before .before .before .pre .1)
 
-read-inner-cast-k : (t : ℕ) → read-inner-lts.Need-cast-k (
-  read-subtree-reads.Asked,
-  read-subtree-reads.Learnt,
-  side-class-reads.Asked,
-  side-class-reads.Learnt,
-  fewer-reads.Asked,
-  fewer-reads.Learnt,
-  read-side-below t,
-  read-side.Post,
-) (read-inner-at t) read-inner.Post
+read-inner-cast-k : (t : ℕ) → read-inner-lts.Need-cast-k (read-inner-calls t) (read-inner-at t) read-inner.Post
 read-inner-cast-k t c = search needs
 
-read-inner-side-class-requires : (t : ℕ) → read-inner-lts.Need-side-class-requires (
-  read-subtree-reads.Asked,
-  read-subtree-reads.Learnt,
-  side-class-reads.Asked,
-  side-class-reads.Learnt,
-  fewer-reads.Asked,
-  fewer-reads.Learnt,
-  read-side-below t,
-  read-side.Post,
-) (read-inner-at t) read-inner.Post
+read-inner-side-class-requires : (t : ℕ)
+    → read-inner-lts.Need-side-class-requires (read-inner-calls t) (read-inner-at t) read-inner.Post
 read-inner-side-class-requires t c κs = tt
 
-read-inner-slice-write-classes : (t : ℕ) → read-inner-lts.Need-slice-write-classes (
-  read-subtree-reads.Asked,
-  read-subtree-reads.Learnt,
-  side-class-reads.Asked,
-  side-class-reads.Learnt,
-  fewer-reads.Asked,
-  fewer-reads.Learnt,
-  read-side-below t,
-  read-side.Post,
-) (read-inner-at t) read-inner.Post
+read-inner-slice-write-classes : (t : ℕ)
+    → read-inner-lts.Need-slice-write-classes (read-inner-calls t) (read-inner-at t) read-inner.Post
 read-inner-slice-write-classes t c = side-room (c .before .before .before .before .before .before .before .before
     .args .lefts) (c .before .before .before .before .before .before .before .before .pre .1) (c .before .before
     .before .before .read-subtree .ensures)
 
-read-inner-add-t13 : (t : ℕ) → read-inner-lts.Need-add-t13 (
-  read-subtree-reads.Asked,
-  read-subtree-reads.Learnt,
-  side-class-reads.Asked,
-  side-class-reads.Learnt,
-  fewer-reads.Asked,
-  fewer-reads.Learnt,
-  read-side-below t,
-  read-side.Post,
-) (read-inner-at t) read-inner.Post
+read-inner-add-t13 : (t : ℕ) → read-inner-lts.Need-add-t13 (read-inner-calls t) (read-inner-at t) read-inner.Post
 read-inner-add-t13 t c = omega (
   arith,
   side-small (c .before .before .before .before .before .before .before .before
@@ -113,28 +84,12 @@ read-inner-add-t13 t c = omega (
       .before .before .before .before .before .read-subtree .ensures),
 )
 
-read-inner-fewer-requires : (t : ℕ) → read-inner-lts.Need-fewer-requires (
-  read-subtree-reads.Asked,
-  read-subtree-reads.Learnt,
-  side-class-reads.Asked,
-  side-class-reads.Learnt,
-  fewer-reads.Asked,
-  fewer-reads.Learnt,
-  read-side-below t,
-  read-side.Post,
-) (read-inner-at t) read-inner.Post
+read-inner-fewer-requires : (t : ℕ)
+    → read-inner-lts.Need-fewer-requires (read-inner-calls t) (read-inner-at t) read-inner.Post
 read-inner-fewer-requires t c κs = tt
 
-read-inner-read-side-requires : (t : ℕ) → read-inner-lts.Need-read-side-requires (
-  read-subtree-reads.Asked,
-  read-subtree-reads.Learnt,
-  side-class-reads.Asked,
-  side-class-reads.Learnt,
-  fewer-reads.Asked,
-  fewer-reads.Learnt,
-  read-side-below t,
-  read-side.Post,
-) (read-inner-at t) read-inner.Post
+read-inner-read-side-requires : (t : ℕ)
+    → read-inner-lts.Need-read-side-requires (read-inner-calls t) (read-inner-at t) read-inner.Post
 read-inner-read-side-requires t c κs = (
   omega (
     arith,
@@ -148,16 +103,8 @@ read-inner-read-side-requires t c κs = (
       .before .before .before .before .before .before .read-subtree .ensures) _ _ (c .before .fewer .ensures),
 )
 
-read-inner-same-length : (t : ℕ) → read-inner-lts.Need-same-length (
-  read-subtree-reads.Asked,
-  read-subtree-reads.Learnt,
-  side-class-reads.Asked,
-  side-class-reads.Learnt,
-  fewer-reads.Asked,
-  fewer-reads.Learnt,
-  read-side-below t,
-  read-side.Post,
-) (read-inner-at t) read-inner.Post
+read-inner-same-length : (t : ℕ)
+    → read-inner-lts.Need-same-length (read-inner-calls t) (read-inner-at t) read-inner.Post
 read-inner-same-length t c =
     c .before .before .read-side .kept .1 .1 .1 .1 .0
     ∙ length-set (c .before .before .before .before .before .before .before .before .before .before .read-subtree
@@ -165,16 +112,7 @@ read-inner-same-length t c =
     .read-subtree .result .caret .0) (c .before .before .before .before .before .before .side-class .result)
     ∙ c .before .before .before .before .before .before .before .before .before .before .read-subtree .kept .1 .1 .1 .0
 
-read-inner-returns : (t : ℕ) → read-inner-lts.Need-returns (
-  read-subtree-reads.Asked,
-  read-subtree-reads.Learnt,
-  side-class-reads.Asked,
-  side-class-reads.Learnt,
-  fewer-reads.Asked,
-  fewer-reads.Learnt,
-  read-side-below t,
-  read-side.Post,
-) (read-inner-at t) read-inner.Post
+read-inner-returns : (t : ℕ) → read-inner-lts.Need-returns (read-inner-calls t) (read-inner-at t) read-inner.Post
 read-inner-returns t c =
     inner-written (c .before .before .before .before .before .before .before .before .before .before .before .before
     .before .before .args .lefts) (c .before .before .before .before .before .before .before .before .before
@@ -183,20 +121,19 @@ read-inner-returns t c =
     .side-class .ensures)
     (c .before .before .before .before .fewer .ensures) (c .before .before .read-side .ensures)
 
-read-side-read-inner-requires : (t : ℕ) → read-side-lts.Need-read-inner-requires (
-  read-inner-below t,
-  read-inner.Post,
-) (read-side-at t) read-side.Post
+-- What `read_side` calls.
+abbrev read-side-calls : ℕ → read-side-lts.Claims
+read-side-calls t = (read-inner-below t, read-inner.Post)
+
+read-side-read-inner-requires : (t : ℕ)
+    → read-side-lts.Need-read-inner-requires (read-side-calls t) (read-side-at t) read-side.Post
 read-side-read-inner-requires t c κs = (
   omega (arith, c .before .before .before .before .pre .0),
   left-ready (c .before .before .before .before .pre .1)
       (c .before .if1 .taken),
 )
 
-read-side-same-length : (t : ℕ) → read-side-lts.Need-same-length (
-  read-inner-below t,
-  read-inner.Post,
-) (read-side-at t) read-side.Post
+read-side-same-length : (t : ℕ) → read-side-lts.Need-same-length (read-side-calls t) (read-side-at t) read-side.Post
 read-side-same-length t c = c .before .before .read-inner .kept .1 .1 .1 .1 .0
 
 read-side-returns :
@@ -211,16 +148,12 @@ read-side-returns t c =
     ∙ ap (λ (cs : List Class). sets (args .classes .now) (args .caret .0) (classBytes cs))
     (left-classes (drop (args .at) (args .shape .now)) (args .lefts) (c .before .before .before .before .if1 .taken))
 
-read-side-shared-slice-read-if2 : (t : ℕ) → read-side-lts.Need-shared-slice-read-if2 (
-  read-inner-below t,
-  read-inner.Post,
-) (read-side-at t) read-side.Post
+read-side-shared-slice-read-if2 : (t : ℕ)
+    → read-side-lts.Need-shared-slice-read-if2 (read-side-calls t) (read-side-at t) read-side.Post
 read-side-shared-slice-read-if2 t c = right-there (c .before .before .before .before .pre .1) (c .before .if1 .left)
 
-read-side-add-read-inner : (t : ℕ) → read-side-lts.Need-add-read-inner (
-  read-inner-below t,
-  read-inner.Post,
-) (read-side-at t) read-side.Post
+read-side-add-read-inner : (t : ℕ)
+    → read-side-lts.Need-add-read-inner (read-side-calls t) (read-side-at t) read-side.Post
 read-side-add-read-inner t c = omega (
   arith,
   right-there (c .before .before .before .before .before .pre .1) (c
@@ -228,10 +161,8 @@ read-side-add-read-inner t c = omega (
   c .before .before .before .before .before .good,
 )
 
-read-side-read-inner-requires-2 : (t : ℕ) → read-side-lts.Need-read-inner-requires-2 (
-  read-inner-below t,
-  read-inner.Post,
-) (read-side-at t) read-side.Post
+read-side-read-inner-requires-2 : (t : ℕ)
+    → read-side-lts.Need-read-inner-requires-2 (read-side-calls t) (read-side-at t) read-side.Post
 read-side-read-inner-requires-2 t c κs = (
   omega (
     arith,
@@ -243,10 +174,7 @@ read-side-read-inner-requires-2 t c κs = (
       .before .if2 .taken),
 )
 
-read-side-same-length-2 : (t : ℕ) → read-side-lts.Need-same-length-2 (
-  read-inner-below t,
-  read-inner.Post,
-) (read-side-at t) read-side.Post
+read-side-same-length-2 : (t : ℕ) → read-side-lts.Need-same-length-2 (read-side-calls t) (read-side-at t) read-side.Post
 read-side-same-length-2 t c = c .before .before .read-inner2 .kept .1 .1 .1 .1 .0
 
 read-side-returns-2 :
@@ -274,16 +202,7 @@ read-side-returns-3 t c =
     (last-classes (c .before .before .before .before .before .pre .1) (c .before .before .if1 .left) (c .if2 .left)))
 
 pub +read-inner+read-side-spec : {M : Type 1} → statement M
-+read-inner+read-side-spec = close μ-read-inner μ-read-side (λ t. read-inner-lts.spec (
-  read-subtree-reads.Asked,
-  read-subtree-reads.Learnt,
-  side-class-reads.Asked,
-  side-class-reads.Learnt,
-  fewer-reads.Asked,
-  fewer-reads.Learnt,
-  read-side-below t,
-  read-side.Post,
-)
++read-inner+read-side-spec = close μ-read-inner μ-read-side (λ t. read-inner-lts.spec (read-inner-calls t)
     (read-inner-at t)
     read-inner.Post
     (read-inner-read-subtree-requires t)
@@ -295,8 +214,7 @@ pub +read-inner+read-side-spec : {M : Type 1} → statement M
     (read-inner-read-side-requires t)
     (read-inner-same-length t)
     (read-inner-returns t))
-    λ t. read-side-lts.spec
-    (read-inner-below t, read-inner.Post)
+    λ t. read-side-lts.spec (read-side-calls t)
     (read-side-at t)
     read-side.Post
     (read-side-read-inner-requires t)

@@ -43,58 +43,40 @@ abbrev write-spine-below : ℕ → In 2 write-spine-kinds.ps
 write-spine-below t =
     and 2 write-spine-kinds.ps (falls 2 write-spine-kinds.ps _<_ μ-write-spine t) write-spine.Pre
 
-write-inner-write-subtree-requires : (t : ℕ) → write-inner-lts.Need-write-subtree-requires (
-  write-subtree-reads.Asked,
-  write-subtree-reads.Learnt,
-  write-spine-below t,
-  write-spine.Post,
-) (write-inner-at t) write-inner.Post
+-- What `write_inner` calls.
+abbrev write-inner-calls : ℕ → write-inner-lts.Claims
+write-inner-calls t = (write-subtree-reads.Asked, write-subtree-reads.Learnt, write-spine-below t, write-spine.Post)
+
+write-inner-write-subtree-requires : (t : ℕ)
+    → write-inner-lts.Need-write-subtree-requires (write-inner-calls t) (write-inner-at t) write-inner.Post
 write-inner-write-subtree-requires t c κs = c .before .before .before .pre .1
 
-write-inner-write-spine-requires : (t : ℕ) → write-inner-lts.Need-write-spine-requires (
-  write-subtree-reads.Asked,
-  write-subtree-reads.Learnt,
-  write-spine-below t,
-  write-spine.Post,
-) (write-inner-at t) write-inner.Post
+write-inner-write-spine-requires : (t : ℕ)
+    → write-inner-lts.Need-write-spine-requires (write-inner-calls t) (write-inner-at t) write-inner.Post
 write-inner-write-spine-requires t c κs =
     let w = c .before .before .before .write-subtree .ensures in (
       omega (arith, c .before .before .before .before .before .before .before .pre .0, w .writing .ends, w .on),
       rest-room w (c .before .before .before .before .before .before .before .pre .1),
     )
 
-write-inner-same-length : (t : ℕ) → write-inner-lts.Need-same-length (
-  write-subtree-reads.Asked,
-  write-subtree-reads.Learnt,
-  write-spine-below t,
-  write-spine.Post,
-) (write-inner-at t) write-inner.Post
+write-inner-same-length : (t : ℕ)
+    → write-inner-lts.Need-same-length (write-inner-calls t) (write-inner-at t) write-inner.Post
 write-inner-same-length t c = c .before .before .write-spine .kept .1 .1 .0 ∙ c .before .before .before .before
     .before .before .write-subtree .kept .1 .1 .0
 
-write-inner-returns : (t : ℕ) → write-inner-lts.Need-returns (
-  write-subtree-reads.Asked,
-  write-subtree-reads.Learnt,
-  write-spine-below t,
-  write-spine.Post,
-) (write-inner-at t) write-inner.Post
+write-inner-returns : (t : ℕ) → write-inner-lts.Need-returns (write-inner-calls t) (write-inner-at t) write-inner.Post
 write-inner-returns t c = write-rest (c .before .before .before .before .before .before .write-subtree .ensures
     .writing) (c .before .before .write-spine .ensures)
 
-write-spine-cast-if1 : (t : ℕ) → write-spine-lts.Need-cast-if1 (
-  write-inner-below t,
-  write-inner.Post,
-  put-leaf-reads.Asked,
-  put-leaf-reads.Learnt,
-) (write-spine-at t) write-spine.Post
+-- What `write_spine` calls.
+abbrev write-spine-calls : ℕ → write-spine-lts.Claims
+write-spine-calls t = (write-inner-below t, write-inner.Post, put-leaf-reads.Asked, put-leaf-reads.Learnt)
+
+write-spine-cast-if1 : (t : ℕ) → write-spine-lts.Need-cast-if1 (write-spine-calls t) (write-spine-at t) write-spine.Post
 write-spine-cast-if1 t c = search needs
 
-write-spine-slice-write-shape : (t : ℕ) → write-spine-lts.Need-slice-write-shape (
-  write-inner-below t,
-  write-inner.Post,
-  put-leaf-reads.Asked,
-  put-leaf-reads.Learnt,
-) (write-spine-at t) write-spine.Post
+write-spine-slice-write-shape : (t : ℕ)
+    → write-spine-lts.Need-slice-write-shape (write-spine-calls t) (write-spine-at t) write-spine.Post
 write-spine-slice-write-shape t c =
     omega (
       arith,
@@ -103,12 +85,8 @@ write-spine-slice-write-shape t c =
           .before .pre .1 .room,
     )
 
-write-spine-add-write-inner : (t : ℕ) → write-spine-lts.Need-add-write-inner (
-  write-inner-below t,
-  write-inner.Post,
-  put-leaf-reads.Asked,
-  put-leaf-reads.Learnt,
-) (write-spine-at t) write-spine.Post
+write-spine-add-write-inner : (t : ℕ)
+    → write-spine-lts.Need-add-write-inner (write-spine-calls t) (write-spine-at t) write-spine.Post
 write-spine-add-write-inner t c =
     omega (
       arith,
@@ -118,12 +96,8 @@ write-spine-add-write-inner t c =
       c .before .before .before .before .before .good,
     )
 
-write-spine-write-inner-requires : (t : ℕ) → write-spine-lts.Need-write-inner-requires (
-  write-inner-below t,
-  write-inner.Post,
-  put-leaf-reads.Asked,
-  put-leaf-reads.Learnt,
-) (write-spine-at t) write-spine.Post
+write-spine-write-inner-requires : (t : ℕ)
+    → write-spine-lts.Need-write-inner-requires (write-spine-calls t) (write-spine-at t) write-spine.Post
 write-spine-write-inner-requires t c κs = (
   omega (
     arith,
@@ -135,32 +109,19 @@ write-spine-write-inner-requires t c κs = (
       .before .if1 .taken),
 )
 
-write-spine-same-length : (t : ℕ) → write-spine-lts.Need-same-length (
-  write-inner-below t,
-  write-inner.Post,
-  put-leaf-reads.Asked,
-  put-leaf-reads.Learnt,
-) (write-spine-at t) write-spine.Post
+write-spine-same-length : (t : ℕ)
+    → write-spine-lts.Need-same-length (write-spine-calls t) (write-spine-at t) write-spine.Post
 write-spine-same-length t c =
     c .before .before .write-inner .kept .1 .1 .0 ∙ length-set (c .before .before .before .before .before .before
     .before .before .args .shape .now) (c .before .before .before .before .before .before .before .before .args
     .at) 1
 
-write-spine-returns : (t : ℕ) → write-spine-lts.Need-returns (
-  write-inner-below t,
-  write-inner.Post,
-  put-leaf-reads.Asked,
-  put-leaf-reads.Learnt,
-) (write-spine-at t) write-spine.Post
+write-spine-returns : (t : ℕ) → write-spine-lts.Need-returns (write-spine-calls t) (write-spine-at t) write-spine.Post
 write-spine-returns t c = spine-wrote (c .before .before .before .before .before .before .before .before .pre .1) (c
     .before .before .before .before .if1 .taken) (c .before .before .write-inner .ensures)
 
-write-spine-put-leaf-requires : (t : ℕ) → write-spine-lts.Need-put-leaf-requires (
-  write-inner-below t,
-  write-inner.Post,
-  put-leaf-reads.Asked,
-  put-leaf-reads.Learnt,
-) (write-spine-at t) write-spine.Post
+write-spine-put-leaf-requires : (t : ℕ)
+    → write-spine-lts.Need-put-leaf-requires (write-spine-calls t) (write-spine-at t) write-spine.Post
 write-spine-put-leaf-requires t c κs =
     omega (
       arith,
@@ -169,40 +130,26 @@ write-spine-put-leaf-requires t c κs =
           .before .before .before .before .pre .1 .room,
     )
 
-write-spine-same-length-2 : (t : ℕ) → write-spine-lts.Need-same-length-2 (
-  write-inner-below t,
-  write-inner.Post,
-  put-leaf-reads.Asked,
-  put-leaf-reads.Learnt,
-) (write-spine-at t) write-spine.Post
+write-spine-same-length-2 : (t : ℕ)
+    → write-spine-lts.Need-same-length-2 (write-spine-calls t) (write-spine-at t) write-spine.Post
 write-spine-same-length-2 t c = c .before .before .put-leaf .kept .0
 
-write-spine-returns-2 : (t : ℕ) → write-spine-lts.Need-returns-2 (
-  write-inner-below t,
-  write-inner.Post,
-  put-leaf-reads.Asked,
-  put-leaf-reads.Learnt,
-) (write-spine-at t) write-spine.Post
+write-spine-returns-2 : (t : ℕ)
+    → write-spine-lts.Need-returns-2 (write-spine-calls t) (write-spine-at t) write-spine.Post
 write-spine-returns-2 t c =
     wrote-same (sym (nodes-end (c .before .before .before .before .before .before .before .before .args .e .now) (c
     .before .before .before .before .before .before .before .before .args .leaf .0) (c .before .before .before
     .before .if1 .left))) (c .before .before .put-leaf .ensures)
 
 pub +write-inner+write-spine-spec : {M : Type 1} → statement M
-+write-inner+write-spine-spec = close μ-write-inner μ-write-spine (λ t. write-inner-lts.spec (
-  write-subtree-reads.Asked,
-  write-subtree-reads.Learnt,
-  write-spine-below t,
-  write-spine.Post,
-)
++write-inner+write-spine-spec = close μ-write-inner μ-write-spine (λ t. write-inner-lts.spec (write-inner-calls t)
     (write-inner-at t)
     write-inner.Post
     (write-inner-write-subtree-requires t)
     (write-inner-write-spine-requires t)
     (write-inner-same-length t)
     (write-inner-returns t))
-    λ t. write-spine-lts.spec
-    (write-inner-below t, write-inner.Post, put-leaf-reads.Asked, put-leaf-reads.Learnt)
+    λ t. write-spine-lts.spec (write-spine-calls t)
     (write-spine-at t)
     write-spine.Post
     (write-spine-cast-if1 t)
