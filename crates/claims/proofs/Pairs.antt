@@ -25,10 +25,11 @@ use Rattle.trees.proofs.Shapes.{shape-length}
 use Rattle.lengths.specs.Kinds.{kinds}
 use Rattle.lengths.specs.Weights.{formLength}
 use Rattle.lengths.proofs.CaretKinds.{kind-at}
-use Rattle.pairs.specs.Contracts.{treePairOf, pairedIn, treeAfter, Paired}
+use Rattle.pairs.specs.Contracts.{treePairOf, wordLengthOf, pairedIn, treeAfter, Paired}
 use Rattle.pairs.specs.declared.TreePair.{TreePair}
+use Rattle.pairs.specs.declared.WordLength.{WordLength}
 use Rattle.pairs.proofs.Tables.{carets-most}
-use Rattle.claims.specs.Refusals.{ShortShape, PairRefusal, unread, shortShape}
+use Rattle.claims.specs.Refusals.{RecordRefusal, ShortShape, PairRefusal, unread, shortShape}
 use Rattle.claims.specs.Demands.{RefusalsOfTreePairs, RefusalsOfLengths, PairOfRecord, RecordGivesPair}
 use Rattle.claims.specs.Demands.{RecordGivesLength}
 use Rattle.claims.proofs.Refusals.{decoded↔refusal}
@@ -42,6 +43,13 @@ valued-accepted : (g : Form → ℕ) (o : Outcome Form) (n : ℕ) → valued g o
     → (f : Form) × (o ≡ accepted f) × (g f ≡ n)
 valued-accepted g (accepted f) n h = (f, refl, accepted-same h)
 valued-accepted g (refused k q) n h = absurd (accepted-refused (sym h))
+
+-- What is refused just under some conditions is accepted just where none of them holds.
+accepted-when : (o : Outcome ℕ) (P : ℕ → ℕ → Type 0) → ((n p : ℕ) → (o ≡ refused n p) ↔ P n p)
+    → ((n : ℕ) × (o ≡ accepted n)) ↔ ((n p : ℕ) → P n p → ⊥)
+accepted-when (accepted x) P h = ((λ a n p c. accepted-refused (h n p .1 c)), λ none. (x, refl))
+accepted-when (refused k q) P h =
+    ((λ a. absurd (accepted-refused (sym (a .1)))), λ none. absurd (none k q (h k q .0 refl)))
 
 -- What is found of a record and two buffers, in each of its cases.
 data Found (s : List ℕ) (m p : ℕ) : Type 0 where
@@ -186,18 +194,25 @@ module _ {s m p m′ p′ : List ℕ} {r : TreePair} (h : Paired s m p m′ p′
 pub refusals-of-tree-pairs : RefusalsOfTreePairs
 refusals-of-tree-pairs = record {
   refused-just-when = λ s m p m′ p′ r bytes h. pair-just-when h bytes;
+  accepted-just-when = λ s m p m′ p′ r bytes h.
+      accepted-when (treePairOf r) (PairRefusal s (length m) (length p)) (pair-just-when h bytes);
   nothing-altered = λ s m p m′ p′ r h. pair-kept h;
 }
 
 pub record-gives-pair : RecordGivesPair
 record-gives-pair s m p m′ p′ r n h = pair-gives h n
 
+length-just-when : (s : List ℕ) (r : WordLength) → Bytes s → wordLengthOf r ≡ valued formLength (decode s) → (n p : ℕ)
+    → (wordLengthOf r ≡ refused n p) ↔ RecordRefusal s n p
+length-just-when s r bytes h n p = (
+  (λ e. decoded↔refusal s bytes n p .0 (valued-refused formLength (decode s) n p (sym h ∙ e))),
+  (λ c. h ∙ ap (valued formLength) (decoded↔refusal s bytes n p .1 c)),
+)
+
 pub refusals-of-lengths : RefusalsOfLengths
 refusals-of-lengths = record {
-  refused-just-when = λ s r bytes h n p. (
-    (λ e. decoded↔refusal s bytes n p .0 (valued-refused formLength (decode s) n p (sym h ∙ e))),
-    (λ c. h ∙ ap (valued formLength) (decoded↔refusal s bytes n p .1 c)),
-  );
+  refused-just-when = length-just-when;
+  accepted-just-when = λ s r bytes h. accepted-when (wordLengthOf r) (RecordRefusal s) (length-just-when s r bytes h);
 }
 
 pub record-gives-length : RecordGivesLength

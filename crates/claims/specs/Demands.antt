@@ -78,12 +78,16 @@ pub record RefusalsOfTwoWords : Type 0 where
 pub record RefusalsOfTreePairs : Type 0 where
   pub refused-just-when : (s m p m′ p′ : List ℕ) (r : TreePair) → Bytes s → Paired s m p m′ p′ r → (n q : ℕ)
       → (treePairOf r ≡ refused n q) ↔ PairRefusal s (length m) (length p) n q
+  pub accepted-just-when : (s m p m′ p′ : List ℕ) (r : TreePair) → Bytes s → Paired s m p m′ p′ r
+      → ((n : ℕ) × (treePairOf r ≡ accepted n)) ↔ ((n q : ℕ) → PairRefusal s (length m) (length p) n q → ⊥)
   pub nothing-altered : (s m p m′ p′ : List ℕ) (r : TreePair) → Paired s m p m′ p′ r → (n q : ℕ)
       → treePairOf r ≡ refused n q → (m′ ≡ m) × (p′ ≡ p)
 
 pub record RefusalsOfLengths : Type 0 where
   pub refused-just-when : (s : List ℕ) (r : WordLength) → Bytes s → wordLengthOf r ≡ valued formLength (decode s)
       → (n p : ℕ) → (wordLengthOf r ≡ refused n p) ↔ RecordRefusal s n p
+  pub accepted-just-when : (s : List ℕ) (r : WordLength) → Bytes s → wordLengthOf r ≡ valued formLength (decode s)
+      → ((n : ℕ) × (wordLengthOf r ≡ accepted n)) ↔ ((n p : ℕ) → RecordRefusal s n p → ⊥)
 
 -- Demand 2, of word to record: the bytes of an accepted word are those of one word; the record that is written for it
 -- is the record of a reduced form with the word's map, and the tables hold that form's exponents.
