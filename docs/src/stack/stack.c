@@ -1,5 +1,6 @@
 /* The stack that one call of each exported function needs: the call runs on a thread whose stack was painted before,
-   and the lowest byte that changed tells how deep it went. */
+   and the lowest byte that changed tells how deep it went. The calls that recurse over trees run on forms of one kind
+   in two sizes: the difference, for each caret, is what one level of the recursion takes. */
 #include <pthread.h>
 #include <stdint.h>
 #include <stdio.h>
@@ -9,14 +10,19 @@
 typedef struct { uint64_t refusal, value; } Answer;
 Answer thompson_word_to_record(const uint8_t *, size_t, uint16_t *, size_t, uint16_t *, size_t, uint8_t *, size_t);
 Answer thompson_check_record(const uint8_t *, size_t);
+Answer thompson_record_to_tree_pair(const uint8_t *, size_t, uint8_t *, size_t, uint8_t *, size_t);
+Answer thompson_record_to_length(const uint8_t *, size_t);
 Answer thompson_same_element(const uint8_t *, size_t, uint16_t *, size_t, uint16_t *, size_t, uint8_t *, size_t,
                              const uint8_t *, size_t, uint16_t *, size_t, uint16_t *, size_t, uint8_t *, size_t);
 
 #define LETTERS 4096
-#define STACK (1 << 20)
+#define CARETS (2 * LETTERS + 1)
+#define STACK (1 << 21)
 static uint8_t word[LETTERS], record1[6 + 4 * LETTERS], record2[6 + 4 * LETTERS];
+static uint8_t t_minus[2 * CARETS + 1], t_plus[2 * CARETS + 1];
 static uint16_t b1[LETTERS + 1], a1[LETTERS + 1], b2[LETTERS + 1], a2[LETTERS + 1];
 static size_t length;
+static Answer answer;
 
 static void *nothing(void *p) { return p; }
 
@@ -36,6 +42,16 @@ static void *same_element(void *p) {
     return p;
 }
 
+static void *record_to_tree_pair(void *p) {
+    answer = thompson_record_to_tree_pair(record1, length, t_minus, sizeof t_minus, t_plus, sizeof t_plus);
+    return p;
+}
+
+static void *record_to_length(void *p) {
+    answer = thompson_record_to_length(record1, length);
+    return p;
+}
+
 static size_t depth(void *(*call)(void *)) {
     uint8_t *s = mmap(0, STACK, PROT_READ | PROT_WRITE, MAP_PRIVATE | MAP_ANONYMOUS, -1, 0);
     memset(s, 0xA5, STACK);
@@ -51,6 +67,77 @@ static size_t depth(void *(*call)(void *)) {
     return STACK - i;
 }
 
+/* A field of a record: its tag, the bytes of its entries, the entries; an entry with exponent 0 is left out. */
+static void put_field(int tag, int entries, const int (*entry)[2]) {
+    size_t body = length + 3, end = body;
+    for (int i = 0; i < entries; i++) {
+        if (entry[i][1] == 0) continue;
+        for (int k = 0; k < 2; k++) {
+            record1[end++] = entry[i][k] >> 8;
+            record1[end++] = entry[i][k];
+        }
+    }
+    record1[length] = tag;
+    record1[length + 1] = (end - body) >> 8;
+    record1[length + 2] = end - body;
+    length = end;
+}
+
+/* The forms, in a size n of at most LETTERS. */
+static void high_b(int n) {
+    put_field(1, 1, (const int[][2]){{n, n}});
+    put_field(2, 0, 0);
+}
+
+static void high_a(int n) {
+    put_field(1, 0, 0);
+    put_field(2, 1, (const int[][2]){{n, n}});
+}
+
+static void low_b(int n) {
+    put_field(1, 1, (const int[][2]){{0, n}});
+    put_field(2, 0, 0);
+}
+
+static void one_b(int n) {
+    put_field(1, 1, (const int[][2]){{n, 1}});
+    put_field(2, 0, 0);
+}
+
+static void low_both(int n) {
+    put_field(1, 2, (const int[][2]){{0, n / 2 - 1}, {1, 1}});
+    put_field(2, 1, (const int[][2]){{0, n / 2 - 1}});
+}
+
+static const struct {
+    const char *name, *trees;
+    void (*put)(int);
+} forms[] = {
+    {"x_n^n", "all right; right, then left", high_b},
+    {"x_n^-n", "right, then left; all right", high_a},
+    {"x_0^n", "all right; left", low_b},
+    {"x_n", "all right; right", one_b},
+    {"x_0^m x_1 x_0^-m", "left; left", low_both},
+};
+
+static void tree_calls(const char *name, void *(*call)(void *), size_t none) {
+    printf("\n%s\n", name);
+    printf("  form, n = 4096    T-; T+                         carets    bytes  carets    bytes  bytes a caret\n");
+    for (size_t i = 0; i < sizeof forms / sizeof forms[0]; i++) {
+        size_t carets[2], bytes[2];
+        for (int k = 0; k < 2; k++) {
+            length = 0;
+            forms[i].put(LETTERS >> k);
+            record_to_tree_pair(0);
+            carets[k] = answer.value;
+            bytes[k] = depth(call) - none;
+            if (answer.refusal != 0) printf("refused with %d\n", (int)answer.refusal);
+        }
+        printf("  %-16s  %-28s  %7zu  %7zu %7zu  %7zu  %13.2f\n", forms[i].name, forms[i].trees, carets[0], bytes[0],
+               carets[1], bytes[1], (double)(bytes[0] - bytes[1]) / (carets[0] - carets[1]));
+    }
+}
+
 int main(void) {
     for (int i = 0; i < LETTERS; i++) word[i] = "aAbB"[(i * 2654435761u >> 13) & 3];
     size_t none = depth(nothing);
@@ -58,5 +145,7 @@ int main(void) {
     printf("word to record         %zu bytes more\n", depth(word_to_record) - none);
     printf("record check           %zu bytes more\n", depth(check_record) - none);
     printf("two words              %zu bytes more\n", depth(same_element) - none);
+    tree_calls("record to tree pair", record_to_tree_pair, none);
+    tree_calls("record to length", record_to_length, none);
     return 0;
 }
