@@ -1,7 +1,9 @@
--- The steps of the shape writer, for the functions inside this crate. Assumes nothing.
+-- The steps of the shape writer and of the count of carets, for the functions inside this crate. Assumes nothing.
+use mathlib.Core.Path.{_≡_}
 use mathlib.Core.List.{List}
 use Prim.Native.Nat.{ℕ, _+_, _≤_, _<_}
 use lib.ListN.{length, drop}
+use Rattle.lists.specs.Entries.{total}
 use Rattle.lists.specs.Writes.{Writing}
 use Rattle.trees.specs.declared.writer.Place.{Place}
 use Rattle.trees.specs.Building.{needed}
@@ -28,3 +30,8 @@ pub record Fits (e : List ℕ) (n : ℕ) (buffer : List ℕ) : Type 0 where
   pub enough : needed 0 e ≤ n
   pub small : n ≤ maxCarets
   pub room : shapeSize n ≤ length buffer
+
+-- The entries of a table from i on are 0.
+pub record Unused (e : List ℕ) (i : ℕ) : Type 0 where
+  pub within : i ≤ length e
+  pub none : total (drop i e) ≡ 0

@@ -4,6 +4,7 @@ ghost use Prim.Native.Nat.{_≤_, max};
 ghost use lib.ListN.{length};
 ghost use Rattle.trees.specs.Building.{needed as neededFrom, raised as raisedBy};
 ghost use Rattle.trees.specs.Pairs.{maxCarets, caretsOfSides};
+ghost use Rattle.trees.specs.Steps.{Unused};
 use refusals::GeneratorIndex;
 
 // The larger of two numbers.
@@ -24,12 +25,26 @@ fn raised(i: GeneratorIndex, exponent: usize, sum: usize, behind: usize) -> usiz
     larger(i.0 as usize + sum + 1, behind)
 }
 
+// The entries up to the last that is not 0.
+fn used(e: &[u16]) -> usize
+    ensures { λ r. ⌜ Unused (now (e .entry)) r ⌝ }
+{
+    let mut i = e.len();
+    while i > 0 {
+        if e[i - 1] != 0 {
+            return i;
+        }
+        i -= 1;
+    }
+    0
+}
+
 // The carets that a table of exponents needs.
 fn needed(e: &[u16]) -> usize
     requires { ⌜ length (now e) ≤ maxCarets ⌝ }
     ensures { λ r. ⌜ r ≡ neededFrom 0 (now (e .entry)) ⌝ }
 {
-    let mut i = e.len();
+    let mut i = used(e);
     let mut sum = 0;
     let mut n = 0;
     while i > 0 {

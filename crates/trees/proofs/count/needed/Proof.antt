@@ -13,7 +13,10 @@ abbrev μ-loop : tie.MeasureT-loop
 μ-loop e i₀ sum₀ n₀ i sum n = i
 
 loop-holds : tie.Need-loop-holds Inv-loop μ-loop
-loop-holds c = count-start _
+loop-holds c = count-start (c .used .ensures)
+
+used-requires : tie.Need-used-requires Inv-loop μ-loop
+used-requires c κs = tt
 
 sub-i : tie.Need-sub-i Inv-loop μ-loop
 sub-i c = omega arith
@@ -32,7 +35,7 @@ add-sum c =
     omega (arith, c .shared-slice-known2 .given (c .before .before .loop .i - 1), c .before .before .loop .inv .bound)
 
 cast-t9 : tie.Need-cast-t9 Inv-loop μ-loop
-cast-t9 c = omega (arith, c .before .before .loop .inv .within, c .before .before .before .before .pre)
+cast-t9 c = omega (arith, c .before .before .loop .inv .within, c .before .before .before .before .before .pre)
 
 raised-requires : tie.Need-raised-requires Inv-loop μ-loop
 raised-requires c κs = omega (
@@ -40,7 +43,7 @@ raised-requires c κs = omega (
   c .shared-slice-known2 .given (c .before .before .loop .i - 1),
   c .before .before .loop .inv .bound,
   c .before .before .loop .inv .within,
-  c .before .before .before .before .pre,
+  c .before .before .before .before .before .pre,
 )
 
 loop-less : tie.Need-loop-less Inv-loop μ-loop
@@ -61,6 +64,7 @@ needed-spec =
     (tie.spec
     Inv-loop
     μ-loop
+    used-requires
     loop-holds
     sub-i
     mul-exponent
