@@ -1,16 +1,13 @@
-// The memory that is lent to a call: what it holds before, and what is unchanged behind a call.
-ghost use Prim.Native.Nat.{_≤_};
-ghost use lib.ListN.{length};
-use crate::numbers;
+// The memory that is lent to a call: what it holds before it, and what is unchanged behind it.
+use cases::numbers;
+use cases::text;
 
 // What a table entry and a byte hold before a call.
 pub const ENTRY: u16 = 0xA5A5;
 
 pub const BYTE: u8 = 0xEE;
 
-// The most letters, entries and bytes that a case asks for.
-pub const WORD: usize = 4200;
-
+// The most entries and bytes that a case asks for.
 pub const TABLE: usize = 4200;
 
 pub const BUFFER: usize = 16800;
@@ -31,11 +28,8 @@ pub fn sizes_at(line: &[u8], b: usize, a: usize, record: usize) -> Sizes {
     }
 }
 
-// Whether there is room for so many letters, and for these sizes.
-pub fn fit(letters: usize, s: Sizes) -> bool {
-    if letters > WORD {
-        return false;
-    }
+// Whether there is room for these sizes.
+pub fn fit(s: Sizes) -> bool {
     if s.b > TABLE {
         return false;
     }
@@ -43,24 +37,6 @@ pub fn fit(letters: usize, s: Sizes) -> bool {
         return false;
     }
     s.record <= BUFFER
-}
-
-// A size, or the most there is.
-pub fn lent(size: usize, most: usize) -> usize
-    ensures { λ r. ⌜ r ≤ most ⌝ }
-{
-    if size < most { size } else { most }
-}
-
-// The entries of a table for so many letters, or the most there are.
-pub fn entries(letters: usize, table: &[u16]) -> usize
-    ensures { λ r. ⌜ r ≤ length (now (table .entry)) ⌝ }
-{
-    if letters < table.len() {
-        letters + 1
-    } else {
-        table.len()
-    }
 }
 
 // Whether a table is unchanged from an entry on.
@@ -87,25 +63,38 @@ fn bytes_kept(buffer: &[u8], from: usize) -> bool {
     true
 }
 
-// Whether two tables and a buffer are unchanged from these places on.
-pub fn kept(b: &[u16], a: &[u16], entries: usize, buffer: &[u8], bytes: usize) -> bool {
-    if !entries_kept(b, entries) {
+// Whether two tables are unchanged from an entry on.
+fn tables_kept(b: &[u16], a: &[u16], from: usize) -> bool {
+    if !entries_kept(b, from) {
         return false;
     }
-    if !entries_kept(a, entries) {
-        return false;
-    }
-    bytes_kept(buffer, bytes)
+    entries_kept(a, from)
 }
 
-// Whether two tables hold the same.
-pub fn same_entries(x: &[u16], y: &[u16]) -> bool {
-    if x.len() != y.len() {
-        return false;
-    }
+// A remark, unless two tables are unchanged from an entry on.
+pub fn put_kept_tables(out: &mut [u8], at: usize, b: &[u16], a: &[u16], from: usize) -> usize {
+    text::put_unless(out, at, tables_kept(b, a, from), b" tables changed")
+}
+
+// A remark, unless a buffer is unchanged from a byte on.
+pub fn put_kept_bytes(out: &mut [u8], at: usize, buffer: &[u8], from: usize) -> usize {
+    text::put_unless(out, at, bytes_kept(buffer, from), b" buffer changed")
+}
+
+// Remarks, unless two tables and a buffer are unchanged.
+pub fn put_kept(out: &mut [u8], at: usize, b: &[u16], a: &[u16], buffer: &[u8]) -> usize {
+    let end = put_kept_tables(out, at, b, a, 0);
+    put_kept_bytes(out, end, buffer, 0)
+}
+
+// Whether a table begins with these entries.
+fn begins(table: &[u16], entries: &[u16]) -> bool {
     let mut i = 0;
-    while i < x.len() {
-        if x[i] != y[i] {
+    while i < entries.len() {
+        if i >= table.len() {
+            return false;
+        }
+        if table[i] != entries[i] {
             return false;
         }
         i += 1;
@@ -113,13 +102,31 @@ pub fn same_entries(x: &[u16], y: &[u16]) -> bool {
     true
 }
 
-// Whether tables and a buffer hold the same as others.
-pub fn same(b: &[u16], a: &[u16], buffer: &[u8], b2: &[u16], a2: &[u16], buffer2: &[u8]) -> bool {
-    if !same_entries(b, b2) {
+// Whether two tables begin with the entries of two others.
+pub fn begin(b: &[u16], a: &[u16], b_entries: &[u16], a_entries: &[u16]) -> bool {
+    if !begins(b, b_entries) {
         return false;
     }
-    if !same_entries(a, a2) {
-        return false;
-    }
-    check::same(buffer, buffer2)
+    begins(a, a_entries)
+}
+
+// A remark, unless two tables and a buffer hold the same as others.
+pub fn put_same(
+    out: &mut [u8],
+    at: usize,
+    b: &[u16],
+    a: &[u16],
+    record: &[u8],
+    b2: &[u16],
+    a2: &[u16],
+    record2: &[u8],
+) -> usize {
+    let end = text::put_unless(out, at, begin(b, a, b2, a2), b" other tables");
+    text::put_unless(out, end, check::same(record, record2), b" other buffer")
+}
+
+// The exponents of two tables.
+pub fn put_tables(out: &mut [u8], at: usize, b: &[u16], a: &[u16]) -> usize {
+    let end = text::put_table(out, at, b" b=", b);
+    text::put_table(out, end, b" a=", a)
 }

@@ -1,5 +1,5 @@
 -- `run` is safe: each turn takes a byte or more of the text. Assumes nothing.
-use Prim.Native.Nat.{_-_, _≤_}
+use Prim.Native.Nat.{_-_}
 use lib.ListN.{length}
 use native.Mathlib.Omega.{arith}
 use Rattle.test_words.proofs.run.Statement.{statement}
@@ -9,16 +9,14 @@ pub run-spec : {M : Type 1} → statement M
 run-spec =
     tie.close
     (tie.spec
-    (λ text wanted name t₀ at₀ t at. at ≤ length text)
-    (λ text wanted name t₀ at₀ t at. length text - at)
-    (λ c. omega arith)
-    (λ c κs. omega arith)
-    (λ c. omega arith)
-    (λ c. omega arith)
-    (λ c. omega arith)
+    (λ text wanted name t₀ number₀ at₀ t number at. Unit {0})
+    (λ text wanted name t₀ number₀ at₀ t number at. length text - at)
+    (λ c. tt)
     (λ c κs. tt)
-    (λ c κs. omega arith)
+    (λ c κs. tt)
+    (λ c κs. tt)
+    (λ c κs. tt)
     (λ c. omega arith)
-    (λ c. omega arith)
+    (λ c. tt)
     (λ c κs. tt)
     (λ c. tt))

@@ -1,0 +1,23 @@
+-- `put_bytes` is safe. Assumes nothing.
+use mathlib.Core.Path.{_≡_}
+use Prim.Native.Nat.{_-_}
+use lib.ListN.{length}
+use native.Mathlib.Omega.{arith}
+use Rattle.cases.proofs.text.put_bytes.Statement.{statement}
+use Rattle.cases.proofs.text.put_bytes.Tie as tie
+
+pub put-bytes-spec : {M : Type 1} → statement M
+put-bytes-spec =
+    tie.close
+    (tie.spec
+    (λ out₀ at bytes end₀ i₀ out end i. length out ≡ length out₀)
+    (λ out₀ at bytes end₀ i₀ out end i. length bytes - i)
+    (λ c κs. tt)
+    (λ c. omega arith)
+    (λ c. omega arith)
+    (λ c κs. tt)
+    (λ c. omega arith)
+    (λ c. omega arith)
+    (λ c. omega arith)
+    (λ c. omega arith)
+    (λ c. tt))
