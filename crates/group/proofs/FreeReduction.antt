@@ -5,6 +5,7 @@ use mathlib.Core.List.{[], _∷_, _++_}
 use mathlib.Core.Option.{Option, none, some}
 use Prim.Native.String.{String}
 use Rattle.group.specs.Letters.{Letter, sameLetter, Word, inverseLetter}
+use Rattle.group.specs.FreeReduction.{pushOn, push, freely}
 use Rattle.group.specs.Chains.{Strings}
 use Rattle.group.specs.Texts.{wordOf}
 use Rattle.group.proofs.Congruence.{Congruent, ≈-refl, ≈-sym, ≈-cons, ≈-drop, _⟫_, ≈-path, ≈-front, ≈-back}
@@ -17,20 +18,6 @@ orEmpty (some w) = w
 
 abbrev pub word : String → Word
 word s = orEmpty (wordOf s)
-
--- x in front of y and then w: both are deleted where y is the inverse of x.
-abbrev pushOn : (x y : Letter) → Dec (y ≡ inverseLetter x) → Word → Word
-pushOn x y (yes e) w = w
-pushOn x y (no n) w = x ∷ y ∷ w
-
--- A letter in front of a freely reduced word.
-abbrev push : Letter → Word → Word
-push x [] = x ∷ []
-push x (y ∷ w) = pushOn x y (sameLetter y (inverseLetter x)) w
-
-abbrev pub freely : Word → Word
-freely [] = []
-freely (x ∷ w) = push x (freely w)
 
 module _ {R : Strings} (pairs : HasPairs R) where
   push-on-sound : (x y : Letter) (d : Dec (y ≡ inverseLetter x)) (w : Word) → Congruent R (x ∷ y ∷ w) (pushOn x y d w)

@@ -1,7 +1,8 @@
 -- The definitions of the group, each file after those it cites.
 
--- words and chains; points and maps
+-- words, free reduction and chains; points and maps
 pub mod Letters
+pub mod FreeReduction
 pub mod Chains
 pub mod Points
 pub mod Maps

@@ -3,27 +3,23 @@
 use mathlib.Core.Path.{_≡_, refl, sym, ap, ap₂, _∙_, subst}
 use mathlib.Core.Bool.{Bool, true, false}
 use mathlib.Core.List.{List}
-use Prim.Native.Nat.{ℕ, suc, _≤_}
+use Prim.Native.Nat.{ℕ}
 use native.Mathlib.Omega.{arith}
-use lib.ListN.{length}
+use lib.ListN.{length, replicate}
 use lib.Dec.{ltb}
 use lib.Seq.{sets}
-use borrow.Author.Tests.{le-ltb}
 use Rattle.group.specs.Forms.{bSide, aSide, Form}
-use Rattle.group.specs.Limits.{limit}
-use Rattle.group.proofs.Reduced.{Canonical}
-use Rattle.refusals.specs.Outcomes.{Outcome, accepted, refused, then, valued, checked, refusal, verdictOf}
+use Rattle.refusals.specs.Outcomes.{Outcome, accepted, refused, then, valued, refusal, refusalIn}
 use Rattle.refusals.specs.declared.Refusal.{Refusal}
 use Rattle.refusals.specs.declared.Verdict.{Verdict}
 use Rattle.refusals.specs.declared.Verdict.the-variants.{Accepted, Refused}
-use Rattle.refusals.proofs.Outcomes.{accepted-refused, refused-number, checked-accepted, checked-refused}
-use Rattle.records.specs.Format.{Within}
+use Rattle.refusals.proofs.Outcomes.{accepted-refused, refused-number}
 use Rattle.records.specs.Reading.{decode}
-use Rattle.records.specs.Contracts.{decodedIn, tableRead, Decoded}
-use Rattle.records.proofs.Accepted.{decode-form}
+use Rattle.records.specs.Contracts.{Decoded}
+use Rattle.records.proofs.ClearedTables.{Cleared, cleared, Read, read-refused, read-accepted}
 use Rattle.trees.specs.Trees.{Tree}
 use Rattle.trees.specs.Building.{treeOf}
-use Rattle.trees.specs.Pairs.{caretsOf, minusTree, plusTree}
+use Rattle.trees.specs.Pairs.{caretsOf, maxCarets, minusTree, plusTree}
 use Rattle.trees.specs.Shapes.{shape, shapeSize}
 use Rattle.trees.specs.Writing.{pairingOf, tableCarets, pairCarets, shapeAfter, WrotePair}
 use Rattle.trees.specs.declared.Pairing.{Pairing}
@@ -36,53 +32,12 @@ use Rattle.pairs.specs.declared.TreePair.{TreePair}
 use Rattle.pairs.specs.declared.TreePair.the-variants as Pair
 use Rattle.pairs.specs.declared.WordLength.{WordLength}
 use Rattle.pairs.specs.declared.WordLength.the-variants as Word
-use Rattle.pairs.specs.Contracts.{treePairOf, wordLengthOf, pairedIn, Paired, refusalIn, pairingIn, lengthIn}
-use Rattle.pairs.proofs.Tables.{Cleared, tableOf, tree-of-table, tables-fit}
+use Rattle.pairs.specs.Contracts.{treePairOf, wordLengthOf, pairedIn, Paired, pairingIn, lengthIn}
+use Rattle.pairs.proofs.Tables.{tree-of-table, tables-fit}
 
--- Tables for the largest tree are never too short for the reader.
-reader-room : (s : List ℕ) (n : ℕ) → suc limit ≤ n → decodedIn s n n ≡ decode s
-reader-room s n h = go (decode s) refl
-  where
-    go : (o : Outcome Form) → decode s ≡ o → decodedIn s n n ≡ decode s
-    go (refused k p) e = rw e refl
-    go (accepted f) e = rw e (simp (le-ltb _ _ h))
-
--- The tables hold the exponents of the form that was read.
-pub record Read (s z b a : List ℕ) (f : Form) : Type 0 where
-  pub decodes : decode s ≡ accepted f
-  pub canonical : Canonical f
-  pub within : Within f
-  pub b-holds : b ≡ tableOf bSide f z
-  pub a-holds : a ≡ tableOf aSide f z
-
--- What the reader left, from cleared tables.
-module _ {s z b a : List ℕ} {v : Verdict} (c : Cleared z) (d : Decoded s z z b a v) where
-  whole : decodedIn s (length z) (length z) ≡ decode s
-  whole = reader-room s (length z) (omega (arith, c .size))
-
-  judged : verdictOf v ≡ checked (decode s)
-  judged = d .result ∙ ap checked whole
-
-  -- It refused.
-  pub read-refused : {q : Refusal} → v ≡ Refused q → decode s ≡ refusal (refusalIn v)
-  read-refused {q} e =
-      checked-refused (decode s) (sym (ap (λ (x : Verdict). verdictOf x) e) ∙ judged)
-      ∙ sym (ap (λ (x : Verdict). refusal (refusalIn x)) e)
-
-  -- It accepted.
-  pub read-accepted : v ≡ Accepted → (f : Form) × Read s z b a f
-  read-accepted e =
-      let x = checked-accepted (decode s) (sym (ap verdictOf e) ∙ judged) in
-      let both = decode-form s (x .0) (x .1) in (
-        x .0,
-        record {
-          decodes = x .1;
-          canonical = both .0;
-          within = both .1;
-          b-holds = d .b-table ∙ ap (λ (o : Outcome Form). tableRead bSide o z) (whole ∙ x .1);
-          a-holds = d .a-table ∙ ap (λ (o : Outcome Form). tableRead aSide o z) (whole ∙ x .1);
-        },
-      )
+-- The calls' own tables.
+pub own-cleared : Cleared maxCarets (replicate maxCarets 0)
+own-cleared = cleared maxCarets (omega arith)
 
 -- An answer of the pair writer that is not unfit is passed on.
 pairing-passed : (x : Pairing) (o : Outcome ℕ) → pairingOf x ≡ o → (o ≡ refused 0 0 → ⊥) → treePairOf (pairingIn x) ≡ o
@@ -91,7 +46,7 @@ pairing-passed (Written.Refused q) o h fit = h
 pairing-passed Written.Unfit o h fit = absurd (fit (sym h))
 
 -- The tables are fit, and their trees are those of the form.
-module _ {s z b a : List ℕ} {f : Form} (c : Cleared z) (r : Read s z b a f) where
+module _ {s z b a : List ℕ} {f : Form} (c : Cleared maxCarets z) (r : Read s z b a f) where
   fit-tables : tableCarets b a ≡ accepted (caretsOf f)
   fit-tables =
       ap₂ tableCarets (r .b-holds) (r .a-holds) ∙ tables-fit f (r .within) c (r .canonical)
@@ -148,7 +103,7 @@ module _ {s z b a : List ℕ} {f : Form} (c : Cleared z) (r : Read s z b a f) wh
         go false false ek el = pair-long (rw (fit-tables, ek, el) refl) (rw (r .decodes, ek, el) refl)
 
 -- A refusal of the reader is passed on, and nothing was written.
-module _ {s z b a : List ℕ} {v : Verdict} {q : Refusal} (c : Cleared z) (d : Decoded s z z b a v) (e : v ≡ Refused q)
+module _ {s z b a : List ℕ} {v : Verdict} {q : Refusal} (c : Cleared maxCarets z) (d : Decoded s z z b a v) (e : v ≡ Refused q)
     (r : Refusal) (is : r ≡ refusalIn v) where
   refuses : decode s ≡ refusal r
   refuses = read-refused c d e ∙ sym (ap refusal is)
@@ -160,7 +115,7 @@ module _ {s z b a : List ℕ} {v : Verdict} {q : Refusal} (c : Cleared z) (d : D
   length-refused = rw refuses refl
 
 -- The tables of a record that is accepted give its tree pair and its length.
-module _ {s z b a : List ℕ} {v : Verdict} (c : Cleared z) (d : Decoded s z z b a v) (e : v ≡ Accepted) where
+module _ {s z b a : List ℕ} {v : Verdict} (c : Cleared maxCarets z) (d : Decoded s z z b a v) (e : v ≡ Accepted) where
   pub pair-answer : {m p m′ p′ : List ℕ} (x : Pairing) (r : TreePair) → WrotePair b a m p m′ p′ x → r ≡ pairingIn x
       → Paired s m p m′ p′ r
   pair-answer {m} {p} {m′} {p′} x r w is =

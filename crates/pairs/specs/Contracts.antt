@@ -12,10 +12,7 @@ use lib.Dec.{ltb}
 use lib.Seq.{sets}
 use Rattle.group.specs.Forms.{Form}
 use Rattle.refusals.specs.Outcomes.{Outcome, accepted, refused, after, then, valued, refusal}
-use Rattle.refusals.specs.declared.Refusal.{Refusal}
 use Rattle.refusals.specs.declared.Refusal.the-variants.{BadFrame}
-use Rattle.refusals.specs.declared.Verdict.{Verdict}
-use Rattle.refusals.specs.declared.Verdict.the-variants as Judged
 use Rattle.records.specs.Reading.{decode}
 use Rattle.trees.specs.Trees.{Tree}
 use Rattle.trees.specs.Pairs.{caretsOf, minusTree, plusTree}
@@ -55,11 +52,7 @@ pub record Paired (s minus plus minus′ plus′ : List ℕ) (r : TreePair) : Ty
   pub t-minus : minus′ ≡ treeAfter minusTree (pairedIn s (length minus) (length plus)) minus
   pub t-plus : plus′ ≡ treeAfter plusTree (pairedIn s (length minus) (length plus)) plus
 
--- The refusal of a verdict, and the answers passed on; what is not met stands for itself.
-abbrev pub refusalIn : Verdict → Refusal
-refusalIn Judged.Accepted = BadFrame
-refusalIn (Judged.Refused r) = r
-
+-- The answers passed on; what is not met stands for itself.
 abbrev pub pairingIn : Pairing → TreePair
 pairingIn (Paired-by.Carets n) = Pair.Carets n
 pairingIn (Paired-by.Refused r) = Pair.Refused r

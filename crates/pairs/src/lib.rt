@@ -3,7 +3,7 @@ ghost use mathlib.Core.Path.{_≡_};
 ghost use Rattle.refusals.specs.Outcomes.{valued};
 ghost use Rattle.records.specs.Reading.{decode};
 ghost use Rattle.lengths.specs.Weights.{formLength};
-ghost use Rattle.pairs.specs.Contracts.{refusalIn, pairingIn, lengthIn, wordLengthOf, Paired};
+ghost use Rattle.pairs.specs.Contracts.{pairingIn, lengthIn, wordLengthOf, Paired};
 use lengths::Length;
 use refusals::Refusal;
 use refusals::Verdict;
@@ -20,16 +20,6 @@ pub enum TreePair {
 pub enum WordLength {
     Letters(usize),
     Refused(Refusal),
-}
-
-// The refusal of a verdict that is not `Accepted`.
-fn refusal_of(verdict: Verdict) -> Refusal
-    ensures { λ r. ⌜ r ≡ refusalIn verdict ⌝ }
-{
-    match verdict {
-        Verdict::Accepted => Refusal::BadFrame,
-        Verdict::Refused(r) => r,
-    }
 }
 
 // The answer of the pair writer; the tables of a form within the limits are never unfit.
@@ -62,7 +52,7 @@ pub fn record_to_tree_pair(record: &[u8], t_minus: &mut [u8], t_plus: &mut [u8])
     let mut a = [0u16; MAX_CARETS];
     let verdict = records::record_to_tables(record, &mut b, &mut a);
     let Verdict::Accepted = verdict else {
-        return TreePair::Refused(refusal_of(verdict));
+        return TreePair::Refused(refusals::refusal_of(verdict));
     };
     paired(trees::write_pair(&b, &a, t_minus, t_plus))
 }
@@ -75,7 +65,7 @@ pub fn record_to_length(record: &[u8]) -> WordLength
     let mut a = [0u16; MAX_CARETS];
     let verdict = records::record_to_tables(record, &mut b, &mut a);
     let Verdict::Accepted = verdict else {
-        return WordLength::Refused(refusal_of(verdict));
+        return WordLength::Refused(refusals::refusal_of(verdict));
     };
     measured(lengths::pair_length(&b, &a))
 }

@@ -33,3 +33,5 @@ pub mod Placing
 pub mod Breaks
 pub mod Checks
 pub mod Decodings
+-- the exponents of a record in tables of zeros
+pub mod ClearedTables

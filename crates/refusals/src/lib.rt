@@ -2,6 +2,7 @@
 ghost use mathlib.Core.Path.{_≡_};
 ghost use Rattle.group.specs.Limits.{limit as theLimit};
 ghost use Rattle.refusals.specs.Refusals.{numberOf, placeOf};
+ghost use Rattle.refusals.specs.Outcomes.{refusalIn};
 
 // The most letters of a word; also the highest index and the highest sum of exponents of a record.
 pub const LIMIT: usize = 4096;
@@ -83,5 +84,15 @@ pub fn place(r: Refusal) -> usize
         Refusal::ShortTable => 0,
         Refusal::ShortBuffer => 0,
         Refusal::LongSpelling => 0,
+    }
+}
+
+// The refusal of a verdict. An accepted one has none, and `BadFrame` stands for it; no caller asks it there.
+pub fn refusal_of(verdict: Verdict) -> Refusal
+    ensures { λ r. ⌜ r ≡ refusalIn verdict ⌝ }
+{
+    match verdict {
+        Verdict::Accepted => Refusal::BadFrame,
+        Verdict::Refused(r) => r,
     }
 }

@@ -1,6 +1,6 @@
 -- `record_to_length` meets its contract. Assumes nothing.
 use borrow.Author.Needs.{needs}
-use Rattle.pairs.proofs.Tables.{cleared}
+use Rattle.pairs.proofs.Answers.{own-cleared}
 use Rattle.pairs.proofs.Answers.{length-refused, length-answer}
 use Rattle.pairs.proofs.record_to_length.Statement.{statement}
 use Rattle.pairs.proofs.record_to_length.Tie as tie
@@ -25,7 +25,7 @@ refusal-of-requires c κs = search needs
 
 returns : tie.Need-returns
 returns c =
-    length-refused cleared (c .before .before .before .before .before .record-to-tables .ensures) (c .before
+    length-refused own-cleared (c .before .before .before .before .before .record-to-tables .ensures) (c .before
     .enum-told2 .given .1) _ (c .refusal-of .ensures)
 
 slice-aggregate-pair-length : tie.Need-slice-aggregate-pair-length
@@ -42,7 +42,7 @@ measured-requires c κs = search needs
 
 returns-2 : tie.Need-returns-2
 returns-2 c =
-    length-answer cleared (c .before .before .before .before .before .before .before .before .record-to-tables
+    length-answer own-cleared (c .before .before .before .before .before .before .before .before .record-to-tables
     .ensures) (c .before .before .before .before .enum-told .given .1) (c .before .pair-length .result) _
     (c .before .pair-length .ensures) (c .measured .ensures)
 

@@ -1,6 +1,6 @@
 -- `record_to_tree_pair` meets its contract. Assumes nothing.
 use borrow.Author.Needs.{needs}
-use Rattle.pairs.proofs.Tables.{cleared}
+use Rattle.pairs.proofs.Answers.{own-cleared}
 use Rattle.pairs.proofs.Answers.{pair-refused, pair-answer}
 use Rattle.pairs.proofs.record_to_tree_pair.Statement.{statement}
 use Rattle.pairs.proofs.record_to_tree_pair.Tie as tie
@@ -25,7 +25,7 @@ refusal-of-requires c κs = search needs
 
 returns : tie.Need-returns
 returns c =
-    pair-refused cleared (c .before .before .before .before .before .record-to-tables .ensures) (c .before .enum-told2
+    pair-refused own-cleared (c .before .before .before .before .before .record-to-tables .ensures) (c .before .enum-told2
     .given .1) _ (c .refusal-of .ensures)
 
 slice-aggregate-write-pair : tie.Need-slice-aggregate-write-pair
@@ -48,7 +48,7 @@ same-length-2 c = search needs
 
 returns-2 : tie.Need-returns-2
 returns-2 c =
-    pair-answer cleared (c .before .before .before .before .before .before .before .before .before .before .before
+    pair-answer own-cleared (c .before .before .before .before .before .before .before .before .before .before .before
     .before .before .before .record-to-tables .ensures) (c .before .before .before .before .before .before .before
     .before .before .before .enum-told .given .1) _ _
     (c .before .before .before .before .before .write-pair .ensures) (c .paired .ensures)
