@@ -18,10 +18,13 @@ use Rattle.words.specs.declared.Comparison.{Comparison}
 use Rattle.words.proofs.Compared.{same-bytes, bytes-same}
 use Rattle.claims.specs.Refusals.{WordRefusal, long, unlettered, shortTable, shortBuffer, NoWordRefusal}
 use Rattle.claims.specs.Demands.{RefusalsOfWords, RefusalsOfRecords, RefusalsOfTwoWords, RecordKeepsMap}
-use Rattle.claims.specs.Demands.{EqualRecordsAreJoined, SameIsJoined}
+use Rattle.claims.specs.Demands.{EqualRecordsAreJoined, SameIsJoined, Demand1, Demand2, Demand3}
 use Rattle.claims.proofs.Refusals.{Judged, refuses, accepts, judge-word, judged↔refusal, judged-accepted}
 use Rattle.claims.proofs.Refusals.{decoded↔refusal}
 use Rattle.claims.proofs.Records.{left-refused, records↔joined, call-of, call-keeps-map, call-front}
+use Rattle.claims.proofs.Pairs.{refusals-of-tree-pairs, refusals-of-lengths, record-gives-pair}
+use Rattle.claims.proofs.Pairs.{record-gives-length}
+use Rattle.claims.proofs.Spellings.{refusals-of-spellings, record-gives-word}
 
 -- What a value is put for keeps its refusal.
 recorded-refused : (o : Outcome Word) (n p : ℕ) → recorded o ≡ refused n p → o ≡ refused n p
@@ -207,3 +210,24 @@ same-is-joined = record {
   else-different = λ u v m m′ k k′ c w x h none b nor a.
       not-joined u v h w x (judged-accepted u m w none b) (judged-accepted v k x nor a);
 }
+
+pub demand1 : Demand1
+demand1 = record {
+  words = refusals-of-words;
+  records = refusals-of-records;
+  two-words = refusals-of-two-words;
+  tree-pairs = refusals-of-tree-pairs;
+  lengths = refusals-of-lengths;
+  spellings = refusals-of-spellings;
+}
+
+pub demand2 : Demand2
+demand2 = record {
+  keeps-map = record-keeps-map;
+  gives-pair = record-gives-pair;
+  gives-length = record-gives-length;
+  gives-word = record-gives-word;
+}
+
+pub demand3 : Demand3
+demand3 = record { equal-just-when-joined = equal-records-are-joined; decided = same-is-joined }

@@ -2,6 +2,7 @@
 pub mod Refusals
 pub mod Records
 pub mod Pairs
+pub mod Spellings
 pub mod Demands
 pub mod Forms
 pub mod Trees

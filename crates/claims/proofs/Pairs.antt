@@ -12,6 +12,7 @@ use Rattle.lists.proofs.Writes.{sets-front, sets-beyond}
 use Rattle.group.specs.Forms.{Form}
 use Rattle.refusals.specs.Outcomes.{Outcome, accepted, refused, valued}
 use Rattle.refusals.proofs.Outcomes.{accepted-same, accepted-refused, refused-number, refused-place}
+use Rattle.refusals.proofs.Outcomes.{valued-refused, valued-accepted, accepted-when}
 use Rattle.records.specs.Reading.{decode}
 use Rattle.records.specs.Faults.{Bytes}
 use Rattle.records.proofs.Accepted.{decode-form}
@@ -33,23 +34,6 @@ use Rattle.claims.specs.Refusals.{RecordRefusal, ShortShape, PairRefusal
 use Rattle.claims.specs.Demands.{RefusalsOfTreePairs, RefusalsOfLengths, PairOfRecord, RecordGivesPair}
 use Rattle.claims.specs.Demands.{RecordGivesLength}
 use Rattle.claims.proofs.Refusals.{decoded↔refusal}
-
--- An outcome with a number in place of what was found.
-valued-refused : (g : Form → ℕ) (o : Outcome Form) (n p : ℕ) → valued g o ≡ refused n p → o ≡ refused n p
-valued-refused g (accepted f) n p h = absurd (accepted-refused h)
-valued-refused g (refused k q) n p h = cc
-
-valued-accepted : (g : Form → ℕ) (o : Outcome Form) (n : ℕ) → valued g o ≡ accepted n
-    → (f : Form) × (o ≡ accepted f) × (g f ≡ n)
-valued-accepted g (accepted f) n h = (f, refl, accepted-same h)
-valued-accepted g (refused k q) n h = absurd (accepted-refused (sym h))
-
--- What is refused just under some conditions is accepted just where none of them holds.
-accepted-when : (o : Outcome ℕ) (P : ℕ → ℕ → Type 0) → ((n p : ℕ) → (o ≡ refused n p) ↔ P n p)
-    → ((n : ℕ) × (o ≡ accepted n)) ↔ ((n p : ℕ) → P n p → ⊥)
-accepted-when (accepted x) P h = ((λ a n p c. accepted-refused (h n p .1 c)), λ none. (x, refl))
-accepted-when (refused k q) P h =
-    ((λ a. absurd (accepted-refused (sym (a .1)))), λ none. absurd (none k q (h k q .0 refl)))
 
 -- What is found of a record and two buffers, in each of its cases.
 data Found (s : List ℕ) (m p : ℕ) : Type 0 where

@@ -107,6 +107,14 @@ call-front {u} {m} {m′} {r} {n} {w} h e b = go (judge-word u m)
         let front = front-record u m m′ n (record { letters = w; judged-so = so }) written in
         record { judged-so = so; count = front .0; front = front .1 }
 
+-- Its record is read as the form of its word.
+pub recorded-form : {u : List ℕ} {m m′ : Memory} {r : Written} {n : ℕ} (w : Word) → Recorded u m m′ r
+    → writtenOf r ≡ accepted n → u ≡ bytesOf w → decode (take n (m′ .buffer)) ≡ accepted (formOf w)
+recorded-form {u} {m} {m′} {r} {n} w h e b =
+    let call = call-front {w = w} h e b in
+    ap decode (call .front)
+    ∙ decode-encode (formOf w) (form-canonical w) (form-within w (judged-within u m w (call .judged-so)))
+
 -- Its record lies inside the buffer.
 record-fits : (u : List ℕ) (m : Memory) (w : Word) → judgedWith u m ≡ accepted w
     → 0 + length (recordOfWord w) ≤ length (m .buffer)
@@ -140,9 +148,7 @@ call-keeps-map {u} {m} {m′} {r} {n} {w} h e b =
     let fits : 0 + length (recordOfWord w) ≤ length (m .buffer) = record-fits u m w so in
     record {
       form = formOf w;
-      reads =
-          ap decode (call .front) ∙ decode-encode (formOf w) (form-canonical w) (form-within w (judged-within u m w
-          so));
+      reads = recorded-form w h e b;
       reduced = form-reduced w;
       same-map = form-map w;
       b-table = table-at w bSide (m .b) (m′ .b) tb;

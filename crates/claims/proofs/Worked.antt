@@ -83,6 +83,7 @@ worked =
       pair-b = (refl, refl);
       pair-Aba = (refl, refl);
       pair-dead-end = (refl, refl);
+      spelled-dead-end = refl;
       minus-dead-end = refl;
       plus-dead-end = refl;
       relator1-printed = refl;

@@ -1,6 +1,7 @@
--- The demands of the papers on the calls, over the calls' own contracts. Each claim is a type; proofs/Demands.antt, or
--- proofs/Pairs.antt for tree pairs and lengths, has its proof, under the same name in small letters with hyphens. What
--- the claims speak of, and where it is defined:
+-- The demands of the papers on the calls, over the calls' own contracts. Each claim is a type; proofs/Demands.antt has
+-- its proof, or proofs/Pairs.antt for tree pairs and lengths, or proofs/Spellings.antt for spellings, under the same
+-- name in small letters with hyphens. Demand1, Demand2 and Demand3 at the end gather them. What the claims speak of,
+-- and where it is defined:
 --     Recorded u m m′ r    the contract of word_to_record: the bytes u, the memory lent with them
 --                          (b table, a table, record buffer) at entry and at exit, the answer       words, Recording
 --     Compared …           the contract of same_element, for two words                           words, Comparing
@@ -8,6 +9,8 @@
 --     Paired s m p m′ p′ r the contract of record_to_tree_pair: the bytes s, the two buffers at
 --                          entry and at exit, the answer; formLength is in that of
 --                          record_to_length                             pairs, Contracts; lengths, Weights
+--     Spelled s w w′ r     the contract of record_to_word: the bytes s, the buffer at entry and at
+--                          exit, the answer                                                   spelling, Contracts
 --     writtenOf, verdictOf, decisionOf, treePairOf, wordLengthOf   each answer as accepted, with
 --                          its value, or refused, with number and place (and the word, 0 or 1)
 --                                                   refusals, Outcomes; words, Comparing; pairs, Contracts
@@ -20,13 +23,16 @@
 --     SendsLeaves f t u    f's map sends leaf k of t to leaf k of u; Redundant, a redundant caret trees, Pairs
 --     shape t, IsKind t k x, weights   the bytes of a tree; the kind of caret k; the sum of weights
 --                                                                  trees, Shapes; lengths, Kinds, Weights
---     WordRefusal, NoWordRefusal, RecordRefusal, PairRefusal   the refusals, by their conditions Refusals
+--     Spells f w           w is each x_k^e of f in order, through its letters, with neighbouring
+--                          inverse letters deleted until none is left     spelling, Spelling; group, FreeReduction
+--     WordRefusal, NoWordRefusal, RecordRefusal, PairRefusal, SpellingRefusal   the refusals, by
+--                          their conditions                                                      Refusals
 --     Bytes s              every element of s is a byte                                          records, Faults
 -- Assumes nothing.
 use mathlib.Core.Path.{_≡_}
 use mathlib.Core.List.{List}
-use mathlib.Core.Logic.{_↔_}
-use Prim.Native.Nat.{ℕ, _+_, _*_, _≤_}
+use mathlib.Core.Logic.{_⊎_, _↔_}
+use Prim.Native.Nat.{ℕ, _+_, _*_, _<_, _≤_}
 use lib.ListN.{length, take, drop, getD}
 use Rattle.lists.specs.Entries.{At}
 use Rattle.group.specs.Letters.{Word}
@@ -49,10 +55,12 @@ use Rattle.lengths.specs.Weights.{weights, formLength}
 use Rattle.pairs.specs.Contracts.{Paired, treePairOf, wordLengthOf}
 use Rattle.pairs.specs.declared.TreePair.{TreePair}
 use Rattle.pairs.specs.declared.WordLength.{WordLength}
+use Rattle.spelling.specs.Spelling.{Spells}
+use Rattle.spelling.specs.Contracts.{Spelled}
 use Rattle.words.specs.Recording.{Memory, Recorded}
 use Rattle.words.specs.Comparing.{Compared, decisionOf, same, different, refusedWord}
 use Rattle.words.specs.declared.Comparison.{Comparison}
-use Rattle.claims.specs.Refusals.{WordRefusal, NoWordRefusal, RecordRefusal, PairRefusal}
+use Rattle.claims.specs.Refusals.{WordRefusal, NoWordRefusal, RecordRefusal, PairRefusal, SpellingRefusal}
 
 -- Demand 1: each refusal is given under its condition and at no other time, and alters nothing.
 pub record RefusalsOfWords : Type 0 where
@@ -88,6 +96,14 @@ pub record RefusalsOfLengths : Type 0 where
       → (n p : ℕ) → (wordLengthOf r ≡ refused n p) ↔ RecordRefusal s n p
   pub accepted-just-when : (s : List ℕ) (r : WordLength) → Bytes s → wordLengthOf r ≡ valued formLength (decode s)
       → ((n : ℕ) × (wordLengthOf r ≡ accepted n)) ↔ ((n p : ℕ) → RecordRefusal s n p → ⊥)
+
+pub record RefusalsOfSpellings : Type 0 where
+  pub refused-just-when : (s w w′ : List ℕ) (r : Written) → Bytes s → Spelled s w w′ r → (n p : ℕ)
+      → (writtenOf r ≡ refused n p) ↔ SpellingRefusal s (length w) n p
+  pub accepted-just-when : (s w w′ : List ℕ) (r : Written) → Bytes s → Spelled s w w′ r
+      → ((n : ℕ) × (writtenOf r ≡ accepted n)) ↔ ((n p : ℕ) → SpellingRefusal s (length w) n p → ⊥)
+  pub nothing-altered : (s w w′ : List ℕ) (r : Written) → Spelled s w w′ r → (n p : ℕ) → writtenOf r ≡ refused n p
+      → w′ ≡ w
 
 -- Demand 2, of word to record: the bytes of an accepted word are those of one word; the record that is written for it
 -- is the record of a reduced form with the word's map, and the tables hold that form's exponents.
@@ -147,6 +163,31 @@ RecordGivesLength =
     (s : List ℕ) (r : WordLength) (n : ℕ) → wordLengthOf r ≡ valued formLength (decode s) → wordLengthOf r ≡ accepted n
     → LengthOfRecord s n
 
+-- Of the spelling: the letters written are the one word that spells the record's form, a word of the same map.
+pub record WordOfRecord (s w w′ : List ℕ) (n : ℕ) : Type 0 where
+  pub form : Form
+  pub reads : decode s ≡ accepted form
+  pub word : Word
+  pub spells : (x : Word) → Spells form x ↔ (x ≡ word)
+  pub number : (length word ≡ n) × (n ≤ limit)
+  pub bytes : take n w′ ≡ bytesOf word
+  pub beyond : drop n w′ ≡ drop n w
+  pub same-map : SameMap word (letters form)
+
+-- It is given unless it passes the limit; it is joined to every word with that record, and its record is that record.
+pub record RecordGivesWord : Type 0 where
+  pub gives : (s w w′ : List ℕ) (r : Written) (n : ℕ) → Spelled s w w′ r → writtenOf r ≡ accepted n
+      → WordOfRecord s w w′ n
+  pub unless-long : (s w w′ : List ℕ) (r : Written) (f : Form) → Spelled s w w′ r → decode s ≡ accepted f
+      → limit ≤ length w
+      → ((n : ℕ) × (writtenOf r ≡ accepted n)) ⊎ ((x : Word) × Spells f x × (limit < length x))
+  pub joined : (s w w′ u : List ℕ) (m m′ : Memory) (r q : Written) (n l : ℕ) (x y : Word)
+      → Spelled s w w′ r → writtenOf r ≡ accepted n → take n w′ ≡ bytesOf x
+      → Recorded u m m′ q → writtenOf q ≡ accepted l → u ≡ bytesOf y → take l (m′ .buffer) ≡ s → Joined x y
+  pub record-again : (s w w′ : List ℕ) (m m′ : Memory) (r q : Written) (n l : ℕ) → Bytes s
+      → Spelled s w w′ r → writtenOf r ≡ accepted n → Recorded (take n w′) m m′ q → writtenOf q ≡ accepted l
+      → (l ≡ length s) × (take l (m′ .buffer) ≡ s)
+
 -- Demand 3: two accepted words have equal records, as many bytes and the same byte at each place, just when a chain
 -- joins them, whatever the lent memory held.
 abbrev pub EqualRecordsAreJoined : Type 0
@@ -163,3 +204,22 @@ pub record SameIsJoined : Type 0 where
   pub else-different : (u v : List ℕ) (m m′ k k′ : Memory) (c : Comparison) (w x : Word) → Compared u m m′ v k k′ c
       → NoWordRefusal u m → u ≡ bytesOf w → NoWordRefusal v k → v ≡ bytesOf x → (Joined w x → ⊥)
       → decisionOf c ≡ different
+
+-- The three demands, whole.
+pub record Demand1 : Type 0 where
+  pub words : RefusalsOfWords
+  pub records : RefusalsOfRecords
+  pub two-words : RefusalsOfTwoWords
+  pub tree-pairs : RefusalsOfTreePairs
+  pub lengths : RefusalsOfLengths
+  pub spellings : RefusalsOfSpellings
+
+pub record Demand2 : Type 0 where
+  pub keeps-map : RecordKeepsMap
+  pub gives-pair : RecordGivesPair
+  pub gives-length : RecordGivesLength
+  pub gives-word : RecordGivesWord
+
+pub record Demand3 : Type 0 where
+  pub equal-just-when-joined : EqualRecordsAreJoined
+  pub decided : SameIsJoined

@@ -3,5 +3,6 @@ pub mod Refusals
 pub mod Demands
 pub mod Forms
 pub mod Trees
+pub mod Spellings
 pub mod Sentences
 pub mod Worked

@@ -1,7 +1,7 @@
 -- The rows of 01, 'Worked at the desk', that are marked P and concern forms and records, as one claim, and that the
 -- relators are the strings that 01 prints. Pairs (i, e) are an index and its exponent, as in 01; a form is written by
 -- its levels, `level b_0 a_0 (level b_1 a_1 …)`, a record byte by byte, as the fields of its two sides.
--- N and the length of a record are those of the form that it is read as. Spellings come with the call that gives them.
+-- N, the length and the spelling of a record are those of the form that it is read as.
 -- Assumes nothing.
 use mathlib.Core.Path.{_≡_}
 use mathlib.Core.List.{List, [], _∷_}
@@ -22,6 +22,7 @@ use Rattle.records.specs.Faults.{formRead}
 use Rattle.trees.specs.Pairs.{caretsOf, minusTree, plusTree}
 use Rattle.lengths.specs.Kinds.{L0, LL, RI, RN, R0, I0, kinds}
 use Rattle.lengths.specs.Weights.{formLength}
+use Rattle.spelling.specs.Spelling.{spelling}
 
 -- The form of a word that is there.
 abbrev pub formOfSome : Option Word → Option Form
@@ -121,6 +122,8 @@ pub record Worked : Type 0 where
   pub pair-b : HasPair x1 3 1
   pub pair-Aba : HasPair x2 4 3
   pub pair-dead-end : HasPair deadEnd 8 11
+  -- the dead end's spelling
+  pub spelled-dead-end : wordOf "aabAAAAAbaaaB" ≡ some (spelling deadEnd)
   -- the kinds of the dead end's carets, as 000, Table 4, prints them
   pub minus-dead-end : kinds (minusTree deadEnd) ≡ L0 ∷ LL ∷ LL ∷ I0 ∷ R0 ∷ R0 ∷ R0 ∷ R0 ∷ []
   pub plus-dead-end : kinds (plusTree deadEnd) ≡ L0 ∷ I0 ∷ LL ∷ LL ∷ RN ∷ RI ∷ I0 ∷ R0 ∷ []

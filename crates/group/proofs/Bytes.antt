@@ -2,14 +2,14 @@
 -- the offset of the first one that is no letter (01, 'Letters and maps'). Assumes nothing.
 use mathlib.Core.Path.{_≡_, refl, _∙_, ap, ap₂}
 use mathlib.Core.Bool.{Bool, true, false, cond}
-use mathlib.Core.List.{List, [], _∷_}
+use mathlib.Core.List.{List, [], _∷_, _++_}
 use mathlib.Core.Logic.{_↔_}
 use mathlib.Core.Option.{Option, none, some}
 use Prim.Native.Nat.{ℕ, zero, suc, _<_}
 use native.Mathlib.Nat.{le-of-suc-le-suc}
 use native.Mathlib.Omega.{arith}
 use lib.Dec.{eqb}
-use lib.ListN.{length, getD}
+use lib.ListN.{length, getD, replicate}
 use borrow.Author.Tests.{eqb-true}
 use Rattle.group.specs.Letters.{Letter, 'a, 'A, 'b, 'B, Word}
 use Rattle.group.specs.Texts.{letterOf}
@@ -59,9 +59,18 @@ unfolding readWord
 word-read [] w h = let same : [] ≡ w = cc in ap bytesOf same
 word-read (c ∷ s) w h = cons-read c s w (letterOf c) (readWord s) refl (word-read s) h
 
-bytes-length : (w : Word) → length (bytesOf w) ≡ length w
+pub bytes-length : (w : Word) → length (bytesOf w) ≡ length w
 bytes-length [] = refl
 bytes-length (x ∷ w) = ap suc (bytes-length w)
+
+-- The bytes of two words, one behind the other, and of one letter several times.
+pub bytes-append : (u v : Word) → bytesOf (u ++ v) ≡ bytesOf u ++ bytesOf v
+bytes-append [] v = refl
+bytes-append (x ∷ u) v = ap (λ (l : List ℕ). byteOf x ∷ l) (bytes-append u v)
+
+pub bytes-replicate : (n : ℕ) (x : Letter) → bytesOf (replicate n x) ≡ replicate n (byteOf x)
+bytes-replicate zero x = refl
+bytes-replicate (suc n) x = ap (λ (l : List ℕ). byteOf x ∷ l) (bytes-replicate n x)
 
 -- A word has a letter for each byte.
 pub read-length : (s : List ℕ) (w : Word) → readWord s ≡ isWord w → length s ≡ length w

@@ -53,7 +53,7 @@ module _ {R : Strings} where
   joined-step : {u v w : Word} → Step R u v → JoinedBy R v w → JoinedBy R u w
   joined-step {v} s j = record { rest = v ∷ j .rest; chain = (s, j .chain); last = j .last }
 
-  joined-trans : {u v w : Word} → JoinedBy R u v → JoinedBy R v w → JoinedBy R u w
+  pub joined-trans : {u v w : Word} → JoinedBy R u v → JoinedBy R v w → JoinedBy R u w
   joined-trans {u} {v} {w} j k = go u (j .rest) (j .chain) (j .last)
     where
       go : (z : Word) (l : List Word) → Chain R z l → lastOf z l ≡ v → JoinedBy R z w
@@ -64,7 +64,7 @@ module _ {R : Strings} where
   step-sym (inl p) = inr p
   step-sym (inr p) = inl p
 
-  joined-sym : {u v : Word} → JoinedBy R u v → JoinedBy R v u
+  pub joined-sym : {u v : Word} → JoinedBy R u v → JoinedBy R v u
   joined-sym {u} {v} j = go u (j .rest) (j .chain) (j .last)
     where
       go : (z : Word) (l : List Word) → Chain R z l → lastOf z l ≡ v → JoinedBy R v z

@@ -2,6 +2,9 @@
 -- The congruence may be any one that has the four pairs x x⁻¹. Assumes nothing.
 use mathlib.Core.Path.{_≡_, refl, sym, _∙_, ap, ap₂}
 use mathlib.Core.List.{[], _∷_, _++_, append-assoc, append-nil}
+use Prim.Native.Nat.{ℕ, zero, suc}
+use lib.ListN.{replicate}
+use Rattle.lists.proofs.Copies.{replicate-past}
 use Rattle.group.specs.Letters.{Letter, 'a, 'A, 'b, 'B, Word, inverseLetter, inverse}
 use Rattle.group.specs.Chains.{Strings, Eight, pair-aA, pair-Aa, pair-bB, pair-Bb}
 use Rattle.group.proofs.Congruence.{Congruent, ≈-refl, ≈-sym, ≈-cons, ≈-drop, _⟫_, ≈-path, ≈-front, ≈-back}
@@ -23,6 +26,13 @@ inverse-twice [] = refl
 inverse-twice (x ∷ w) =
     inverse-append (inverse w) (inverseLetter x ∷ [])
     ∙ ap₂ (λ (y : Letter) (u : Word). y ∷ u) (inverse-letter-twice x) (inverse-twice w)
+
+pub inverse-replicate : (n : ℕ) (x : Letter) → inverse (replicate n x) ≡ replicate n (inverseLetter x)
+inverse-replicate zero x = refl
+inverse-replicate (suc n) x =
+    ap (λ (w : Word). w ++ (inverseLetter x ∷ [])) (inverse-replicate n x)
+    ∙ replicate-past n (inverseLetter x) []
+    ∙ ap (λ (w : Word). inverseLetter x ∷ w) (append-nil (replicate n (inverseLetter x)))
 
 -- The four pairs x x⁻¹ are among the strings.
 abbrev pub HasPairs : Strings → Type 0

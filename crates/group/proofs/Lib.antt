@@ -1,9 +1,11 @@
 -- The theorems of the group, each file after those it cites. The main ones are in Theorems.
 
--- chains as a congruence; inverses; derivations checked by free reduction
+-- chains as a congruence; inverses; derivations checked by free reduction; freely reduced words; deletions
 pub mod Congruence
 pub mod Inverses
 pub mod FreeReduction
+pub mod FreeWords
+pub mod Deletions
 -- the shift x_k to x_(k+1); the generators; both presentations
 pub mod Shift
 pub mod Generators

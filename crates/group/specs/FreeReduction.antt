@@ -4,7 +4,7 @@
 --     Deletions u w     deletions, one after another, at any places and in any order, lead from u to w
 --     FreelyReduced w   no neighbouring inverse letters are left
 --     freely w          the word that is left of w, worked out from its end
--- That the order of deleting does not matter, so that `freely` is the paper's sentence, is proved: FreeReduction of the
+-- That the order of deleting does not matter, so that `freely` is the paper's sentence, is proved: Deletions of the
 -- proofs. Assumes nothing.
 use mathlib.Core.Path.{_≡_}
 use mathlib.Core.List.{[], _∷_, _++_}

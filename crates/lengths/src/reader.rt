@@ -4,7 +4,7 @@ ghost use mathlib.Core.Path.{_≡_};
 ghost use Prim.Native.Nat.{suc, _<_};
 ghost use lib.ListN.{length, drop};
 ghost use lib.Seq.{sets};
-ghost use Rattle.lengths.specs.Reading.{insideAt, sideClasses, nextOnSide, classesFrom, shapeClasses};
+ghost use Rattle.lengths.specs.Reading.{insideAt, sideClasses, classesFrom, shapeClasses};
 ghost use Rattle.lengths.specs.Steps.{classByte, classBytes, onSide, fewer as fewerOf, leftCarets};
 ghost use Rattle.lengths.specs.Steps.{Readable, Hanging, NodeReady, NodeRead, SubtreeRead, Shaped};
 use refusals::CaretNumber;

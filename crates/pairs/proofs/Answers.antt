@@ -103,8 +103,8 @@ module _ {s z b a : List ℕ} {f : Form} (c : Cleared maxCarets z) (r : Read s z
         go false false ek el = pair-long (rw (fit-tables, ek, el) refl) (rw (r .decodes, ek, el) refl)
 
 -- A refusal of the reader is passed on, and nothing was written.
-module _ {s z b a : List ℕ} {v : Verdict} {q : Refusal} (c : Cleared maxCarets z) (d : Decoded s z z b a v) (e : v ≡ Refused q)
-    (r : Refusal) (is : r ≡ refusalIn v) where
+module _ {s z b a : List ℕ} {v : Verdict} {q : Refusal} (c : Cleared maxCarets z) (d : Decoded s z z b a v)
+    (e : v ≡ Refused q) (r : Refusal) (is : r ≡ refusalIn v) where
   refuses : decode s ≡ refusal r
   refuses = read-refused c d e ∙ sym (ap refusal is)
 

@@ -45,4 +45,5 @@ module _ (f : Form) (w : Within f) {z : List ℕ} (c : Cleared maxCarets z) wher
   tables-fit d =
       let few : caretsOfSides (tableOf bSide f z) (tableOf aSide f z) ≤ maxCarets =
       omega (arith, same-carets, carets-most f d w) in
-      simp (eq-eqb _ _ (table-length f w c bSide), eq-eqb _ _ (table-length f w c aSide), le-ltb _ _ few) (ap accepted same-carets)
+      simp (eq-eqb _ _ (table-length f w c bSide), eq-eqb _ _ (table-length f w c aSide), le-ltb _ _ few)
+      (ap accepted same-carets)

@@ -27,11 +27,16 @@ pub mod WriteLoops
 pub mod WriteAnswers
 -- the reader's loops and answers
 pub mod Frames
+pub mod FieldsAt
+pub mod FramedFields
 pub mod Scanning
 pub mod Fields
 pub mod Placing
 pub mod Breaks
 pub mod Checks
 pub mod Decodings
+-- the calls of a walk by hand; what a field reader owns
+pub mod Answers
+pub mod ReaderParts
 -- the exponents of a record in tables of zeros
 pub mod ClearedTables

@@ -4,4 +4,5 @@ pub mod Fields
 pub mod Reading
 pub mod Faults
 pub mod Steps
+pub mod FieldReading
 pub mod Contracts

@@ -7,6 +7,7 @@ use refusals::LIMIT;
 use refusals::Refusal;
 use refusals::Verdict;
 
+mod field_reader;
 mod reading;
 mod writing;
 
@@ -47,7 +48,7 @@ pub fn write_record(b: &[u16], a: &[u16], buffer: &mut [u8]) -> Encoding
 pub fn check_record(record: &[u8]) -> Verdict
     ensures { λ r. ⌜ verdictOf r ≡ checked (decode (now («record» .entry))) ⌝ }
 {
-    let fields = reading::read_frame(record);
+    let fields = field_reader::read_frame(record);
     let reading::Frame::Exact(b_length, a_length) = fields else {
         return Verdict::Refused(Refusal::BadFrame);
     };
@@ -73,7 +74,7 @@ pub fn record_to_tables(record: &[u8], b_table: &mut [u16], a_table: &mut [u16])
     if a_table.len() < LIMIT + 1 {
         return Verdict::Refused(Refusal::ShortTable);
     }
-    let fields = reading::read_frame(record);
+    let fields = field_reader::read_frame(record);
     if let reading::Frame::Exact(b_length, a_length) = fields {
         reading::fill_fields(record, b_length, a_length, b_table, a_table);
     }

@@ -5,12 +5,10 @@ ghost use lib.ListN.{length};
 ghost use Rattle.lists.specs.Tables.{filled};
 ghost use Rattle.group.specs.Limits.{limit};
 ghost use Rattle.refusals.specs.Outcomes.{verdictOf, checked};
-ghost use Rattle.records.specs.Reading.{twoAt, bLength, aLength, frames, entriesAt, bPowers, aPowers, exponentAt};
+ghost use Rattle.records.specs.Reading.{twoAt, entriesAt, exponentAt};
 ghost use Rattle.records.specs.Reading.{faulty as isFaulty, scan as scanned, reducedForm};
 ghost use Rattle.records.specs.Steps.{frameOf, scanOf, scanBoth, isBreak, Proper, Ordered, placed};
 ghost use Rattle.records.specs.Steps.{BreakFound, FieldsFilled};
-use super::A_TAG;
-use super::B_TAG;
 use super::BASE_SIZE;
 use refusals::GeneratorIndex;
 use refusals::LIMIT;
@@ -30,43 +28,12 @@ pub enum Scan {
 }
 
 // The two-byte number at an offset.
-fn number_at(s: &[u8], at: usize) -> usize
+pub fn number_at(s: &[u8], at: usize) -> usize
     requires { ⌜ at + 1 < length (now s) ⌝ }
     ensures { λ r. ⌜ r ≡ twoAt (now (s .entry)) at ⌝ }
     ensures { λ r. ⌜ r < 65536 ⌝ }
 {
     256 * s[at] as usize + s[at + 1] as usize
-}
-
-// The two fields: present, in order, ending where the bytes end, with whole entries.
-pub fn read_frame(s: &[u8]) -> Frame
-    ensures { λ r. ⌜ r ≡ frameOf (now (s .entry)) ⌝ }
-{
-    let n = s.len();
-    if n < BASE_SIZE {
-        return Frame::Broken;
-    }
-    let b = number_at(s, 1);
-    if n < BASE_SIZE + b {
-        return Frame::Broken;
-    }
-    let a = number_at(s, 4 + b);
-    if s[0] != B_TAG {
-        return Frame::Broken;
-    }
-    if s[3 + b] != A_TAG {
-        return Frame::Broken;
-    }
-    if n != BASE_SIZE + b + a {
-        return Frame::Broken;
-    }
-    if b % 4 != 0 {
-        return Frame::Broken;
-    }
-    if a % 4 != 0 {
-        return Frame::Broken;
-    }
-    Frame::Exact(b, a)
 }
 
 // Whether an entry breaks a rule; `low` is one above the index before it.

@@ -1,10 +1,11 @@
 -- Laws of outcomes: accepted is not refused, an outcome says what it holds, and what led to an acceptance.
 -- Assumes nothing.
-use mathlib.Core.Path.{_≡_, refl}
+use mathlib.Core.Path.{_≡_, refl, sym}
 use mathlib.Core.Bool.{Bool, true, false, cond}
+use mathlib.Core.Logic.{_↔_}
 use Prim.Native.Nat.{ℕ}
 use native.Mathlib.Omega.{arith}
-use Rattle.refusals.specs.Outcomes.{Outcome, accepted, refused, checked}
+use Rattle.refusals.specs.Outcomes.{Outcome, accepted, refused, valued, checked}
 
 module _ {A : Type 0} where
   pub accepted-same : {x y : A} → accepted x ≡ accepted y → x ≡ y
@@ -34,3 +35,20 @@ module _ {A : Type 0} where
   pub checked-refused : {n p : ℕ} (o : Outcome A) → refused n p ≡ checked o → o ≡ refused n p
   checked-refused (accepted x) e = let z : _≡_ {A = ℕ} 0 1 = cc in absurd (omega arith)
   checked-refused (refused m q) e = cc
+
+  -- An outcome with a number in place of what was found.
+  pub valued-refused : (g : A → ℕ) (o : Outcome A) (n p : ℕ) → valued g o ≡ refused n p → o ≡ refused n p
+  valued-refused g (accepted x) n p h = let z : _≡_ {A = ℕ} 0 1 = cc in absurd (omega arith)
+  valued-refused g (refused k q) n p h = cc
+
+  pub valued-accepted : (g : A → ℕ) (o : Outcome A) (n : ℕ) → valued g o ≡ accepted n
+      → (x : A) × (o ≡ accepted x) × (g x ≡ n)
+  valued-accepted g (accepted x) n h = let e : g x ≡ n = cc in (x, refl, e)
+  valued-accepted g (refused k q) n h = let z : _≡_ {A = ℕ} 0 1 = cc in absurd (omega arith)
+
+-- What is refused just under some conditions is accepted just where none of them holds.
+pub accepted-when : (o : Outcome ℕ) (P : ℕ → ℕ → Type 0) → ((n p : ℕ) → (o ≡ refused n p) ↔ P n p)
+    → ((n : ℕ) × (o ≡ accepted n)) ↔ ((n p : ℕ) → P n p → ⊥)
+accepted-when (accepted x) P h = ((λ a n p c. accepted-refused (h n p .1 c)), λ none. (x, refl))
+accepted-when (refused k q) P h =
+    ((λ a. absurd (accepted-refused (sym (a .1)))), λ none. absurd (none k q (h k q .0 refl)))

@@ -1,5 +1,5 @@
--- The contract of record to word on every input (01, 'What the desk can be asked', 'Who caused the refusal'): refusals 3,
--- 4 and 5 of the record, then 8, then 7.
+-- The contract of record to word on every input (01, 'What the desk can be asked', 'Who caused the refusal'): refusals
+-- 3, 4 and 5 of the record, then 8, then 7.
 --     spelledIn s n   the word of the bytes s, beside a buffer of n bytes, or what is refused
 --     Spelled         the contract of `record_to_word`
 -- Assumes nothing.

@@ -1,6 +1,6 @@
--- The spelling of a form (01, 'What the desk can be asked'): "Write each x_k^e of the form, in order, through the letters
--- given above, then delete neighbouring inverse letters until none is left." The first part is `letters` of the group's
--- Forms, the second its FreeReduction.
+-- The spelling of a form (01, 'What the desk can be asked'): "Write each x_k^e of the form, in order, through the
+-- letters given above, then delete neighbouring inverse letters until none is left." The first part is `letters` of the
+-- group's Forms, the second its FreeReduction.
 --     Spells f w       w is such a word                      spelling f   the word; there is no other
 --     runs f           the powers of index 1 and above, as runs
 --     runSpelling f    the word, run by run                  spellingLength f   its number of letters

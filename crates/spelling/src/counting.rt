@@ -3,8 +3,7 @@ ghost use mathlib.Core.Path.{_≡_};
 ghost use Prim.Native.Nat.{_<_, _^_};
 ghost use lib.ListN.{length};
 ghost use Rattle.group.specs.Limits.{limit};
-ghost use Rattle.spelling.specs.Runs.{rising, falling};
-ghost use Rattle.spelling.specs.Steps.{behindRuns, entry, tableLetters};
+ghost use Rattle.spelling.specs.Steps.{behindRuns, risingRuns, fallingRuns, tableLetters};
 use super::speller;
 use super::speller::Speller;
 use refusals::GeneratorIndex;
@@ -13,8 +12,8 @@ use refusals::LIMIT;
 // The b side from index 1 on, indices rising.
 fn count_rising(b: &[u16], start: Speller) -> Speller
     requires { ⌜ limit < length (now b) ⌝ }
-    requires { ⌜ behindRuns start (rising (entry (now b)) 0 limit) .count < 2 ^ 60 ⌝ }
-    ensures { λ r. ⌜ r ≡ behindRuns start (rising (entry (now (b .entry))) 0 limit) ⌝ }
+    requires { ⌜ behindRuns start (risingRuns (now b)) .count < 2 ^ 64 ⌝ }
+    ensures { λ r. ⌜ r ≡ behindRuns start (risingRuns (now (b .entry))) ⌝ }
 {
     let mut state = start;
     let mut k = 1;
@@ -28,8 +27,8 @@ fn count_rising(b: &[u16], start: Speller) -> Speller
 // The a side down to index 1, indices falling.
 fn count_falling(a: &[u16], start: Speller) -> Speller
     requires { ⌜ limit < length (now a) ⌝ }
-    requires { ⌜ behindRuns start (falling (entry (now a)) limit) .count < 2 ^ 60 ⌝ }
-    ensures { λ r. ⌜ r ≡ behindRuns start (falling (entry (now (a .entry))) limit) ⌝ }
+    requires { ⌜ behindRuns start (fallingRuns (now a)) .count < 2 ^ 64 ⌝ }
+    ensures { λ r. ⌜ r ≡ behindRuns start (fallingRuns (now (a .entry))) ⌝ }
 {
     let mut state = start;
     let mut k = LIMIT;

@@ -1,6 +1,6 @@
 // The state of the speller, handed on by value: each method takes one power and hands back the next count of letters.
-// Between the powers of index 1 and above stand letters `a` and `A` alone, and of these the lesser number is deleted; so
-// the state holds how many letters `a` are due.
+// Between the powers of index 1 and above stand letters `a` and `A` alone, and of these the lesser number is deleted;
+// so the state holds how many letters `a` are due.
 ghost use mathlib.Core.Path.{_≡_};
 ghost use mathlib.Core.Bool.{cond};
 ghost use mathlib.Core.List.{[]};
@@ -10,7 +10,7 @@ ghost use Rattle.group.specs.Letters.{'b, 'B};
 ghost use Rattle.group.specs.Bytes.{bytesOf};
 ghost use Rattle.lists.specs.Writes.{Wrote};
 ghost use Rattle.spelling.specs.Runs.{putRun, turn, distance};
-ghost use Rattle.spelling.specs.Steps.{behindRuns, WroteRuns};
+ghost use Rattle.spelling.specs.Steps.{behindPower, WroteRuns};
 use refusals::GeneratorIndex;
 
 // How many letters are spelled, and how many letters `a` are due behind them.
@@ -65,8 +65,8 @@ impl Speller {
     // Behind x_k^e or its inverse; exponent 0 is no power.
     pub fn power(self, k: GeneratorIndex, e: u16) -> Self
         requires { ⌜ 0 < k .0 ⌝ }
-        requires { ⌜ behindRuns self (putRun (k .0 - 1) 'b e []) .count < 2 ^ 60 ⌝ }
-        ensures { λ r. ⌜ r ≡ behindRuns self (putRun (k .0 - 1) 'b e []) ⌝ }
+        requires { ⌜ behindPower self (k .0 - 1) e .count < 2 ^ 64 ⌝ }
+        ensures { λ r. ⌜ r ≡ behindPower self (k .0 - 1) e ⌝ }
     {
         if e == 0 {
             return self;
@@ -81,7 +81,7 @@ impl Speller {
     // The same, with its letters written behind those so far: e times `b`, or `B` for the inverse.
     pub fn write(self, k: GeneratorIndex, e: u16, inverse: bool, word: &mut [u8]) -> Self
         requires { ⌜ 0 < k .0 ⌝ }
-        requires { ⌜ behindRuns self (putRun (k .0 - 1) (cond inverse 'B 'b) e []) .count ≤ length (now word) ⌝ }
+        requires { ⌜ behindPower self (k .0 - 1) e .count ≤ length (now word) ⌝ }
         ensures { λ r. ⌜ WroteRuns (putRun (k .0 - 1) (cond inverse 'B 'b) e []) self (now (word .entry))
             (now (word .exit)) r ⌝ }
     {

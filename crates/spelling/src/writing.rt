@@ -1,12 +1,11 @@
 // The letters of a spelling: the speller taken through both tables, with its letters written.
-ghost use mathlib.Core.Path.{_≡_};
 ghost use Prim.Native.Nat.{_<_, _≤_};
 ghost use lib.ListN.{length};
 ghost use Rattle.group.specs.Bytes.{bytesOf};
 ghost use Rattle.group.specs.Limits.{limit};
 ghost use Rattle.lists.specs.Writes.{Wrote};
-ghost use Rattle.spelling.specs.Runs.{rising, falling};
-ghost use Rattle.spelling.specs.Steps.{behindRuns, WroteRuns, entry, tableLetters, tableSpelling};
+ghost use Rattle.spelling.specs.Steps.{behindRuns, WroteRuns};
+ghost use Rattle.spelling.specs.Steps.{risingRuns, fallingRuns, tableLetters, tableSpelling};
 use super::speller;
 use super::speller::Speller;
 use refusals::GeneratorIndex;
@@ -15,8 +14,8 @@ use refusals::LIMIT;
 // The b side from index 1 on, indices rising.
 fn write_rising(b: &[u16], start: Speller, word: &mut [u8]) -> Speller
     requires { ⌜ limit < length (now b) ⌝ }
-    requires { ⌜ behindRuns start (rising (entry (now b)) 0 limit) .count ≤ length (now word) ⌝ }
-    ensures { λ r. ⌜ WroteRuns (rising (entry (now (b .entry))) 0 limit) start (now (word .entry)) (now (word .exit)) r ⌝ }
+    requires { ⌜ behindRuns start (risingRuns (now b)) .count ≤ length (now word) ⌝ }
+    ensures { λ r. ⌜ WroteRuns (risingRuns (now (b .entry))) start (now (word .entry)) (now (word .exit)) r ⌝ }
 {
     let mut state = start;
     let mut k = 1;
@@ -30,8 +29,8 @@ fn write_rising(b: &[u16], start: Speller, word: &mut [u8]) -> Speller
 // The a side down to index 1, indices falling.
 fn write_falling(a: &[u16], start: Speller, word: &mut [u8]) -> Speller
     requires { ⌜ limit < length (now a) ⌝ }
-    requires { ⌜ behindRuns start (falling (entry (now a)) limit) .count ≤ length (now word) ⌝ }
-    ensures { λ r. ⌜ WroteRuns (falling (entry (now (a .entry))) limit) start (now (word .entry)) (now (word .exit)) r ⌝ }
+    requires { ⌜ behindRuns start (fallingRuns (now a)) .count ≤ length (now word) ⌝ }
+    ensures { λ r. ⌜ WroteRuns (fallingRuns (now (a .entry))) start (now (word .entry)) (now (word .exit)) r ⌝ }
 {
     let mut state = start;
     let mut k = LIMIT;

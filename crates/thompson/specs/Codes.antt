@@ -4,11 +4,14 @@ use mathlib.Core.Path.{_≡_}
 use mathlib.Core.List.{List}
 use Prim.Native.Nat.{ℕ, _+_, _*_}
 use lib.ListN.{length}
-use Rattle.refusals.specs.Outcomes.{Outcome, accepted, refused, valued}
+use lib.Seq.{sets}
+use Rattle.group.specs.Bytes.{bytesOf}
+use Rattle.refusals.specs.Outcomes.{Outcome, accepted, refused, after, valued}
 use Rattle.words.specs.Recording.{Memory, judgedWith, recorded, Left}
 use Rattle.words.specs.Comparing.{Decision, same, different, refusedWord, decided, beside}
 use Rattle.trees.specs.Pairs.{caretsOf, minusTree, plusTree}
 use Rattle.pairs.specs.Contracts.{pairedIn, treeAfter}
+use Rattle.spelling.specs.Contracts.{spelledIn}
 use Rattle.thompson.specs.declared.Answer.{Answer}
 
 -- The two numbers of an answer.
@@ -30,6 +33,11 @@ codeOfDecision (refusedWord word number place) = answer (256 * word + number) pl
 pub record ExportedRecord (word : List ℕ) (entry exit : Memory) (r : Answer) : Type 0 where
   pub result : r ≡ codeOf (recorded (judgedWith word entry))
   pub leaves : Left (judgedWith word entry) entry exit
+
+-- Record to word.
+pub record ExportedWord (s word word′ : List ℕ) (r : Answer) : Type 0 where
+  pub result : r ≡ codeOf (valued length (spelledIn s (length word)))
+  pub bytes : word′ ≡ after (spelledIn s (length word)) word (λ w. sets word 0 (bytesOf w))
 
 -- Record to tree pair.
 pub record ExportedPair (s minus plus minus′ plus′ : List ℕ) (r : Answer) : Type 0 where

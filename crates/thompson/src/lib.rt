@@ -8,6 +8,7 @@ ghost use Rattle.words.specs.Comparing.{decisionOf};
 ghost use Rattle.lengths.specs.Weights.{formLength};
 ghost use Rattle.pairs.specs.Contracts.{treePairOf, wordLengthOf};
 ghost use Rattle.thompson.specs.Codes.{codeOf, codeOfDecision, ExportedRecord, ExportedComparison, ExportedPair};
+ghost use Rattle.thompson.specs.Codes.{ExportedWord};
 use pairs::TreePair;
 use pairs::WordLength;
 use refusals::Refusal;
@@ -127,6 +128,14 @@ pub extern "C" fn thompson_check_record(record: &[u8]) -> Answer
     ensures { λ r. ⌜ r ≡ codeOf (checked (decode (now («record» .entry)))) ⌝ }
 {
     from_verdict(records::check_record(record))
+}
+
+// Record to word; the value is the number of letters.
+#[no_mangle]
+pub extern "C" fn thompson_record_to_word(record: &[u8], word: &mut [u8]) -> Answer
+    ensures { λ r. ⌜ ExportedWord (now («record» .entry)) (now (word .entry)) (now (word .exit)) r ⌝ }
+{
+    from_written(spelling::record_to_word(record, word))
 }
 
 // Record to tree pair; the value is the number of carets of each tree.

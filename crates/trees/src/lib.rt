@@ -1,5 +1,4 @@
 // Tree pairs of forms.
-ghost use mathlib.Core.Path.{_≡_};
 ghost use Rattle.trees.specs.Writing.{WrotePair};
 use refusals::LIMIT;
 use refusals::Refusal;

@@ -1,28 +1,20 @@
 /* The stack that one call of each exported function needs: the call runs on a thread whose stack was painted before,
    and the lowest byte that changed tells how deep it went. The calls that recurse over trees run on forms of one kind
    in two sizes: the difference, for each caret, is what one level of the recursion takes. */
+#include "thompson.h"
+
 #include <pthread.h>
-#include <stdint.h>
 #include <stdio.h>
 #include <string.h>
 #include <sys/mman.h>
 
-typedef struct { uint64_t refusal, value; } Answer;
-Answer thompson_word_to_record(const uint8_t *, size_t, uint16_t *, size_t, uint16_t *, size_t, uint8_t *, size_t);
-Answer thompson_check_record(const uint8_t *, size_t);
-Answer thompson_record_to_tree_pair(const uint8_t *, size_t, uint8_t *, size_t, uint8_t *, size_t);
-Answer thompson_record_to_length(const uint8_t *, size_t);
-Answer thompson_same_element(const uint8_t *, size_t, uint16_t *, size_t, uint16_t *, size_t, uint8_t *, size_t,
-                             const uint8_t *, size_t, uint16_t *, size_t, uint16_t *, size_t, uint8_t *, size_t);
-
-#define LETTERS 4096
-#define CARETS (2 * LETTERS + 1)
+#define LETTERS THOMPSON_LIMIT
 #define STACK (1 << 21)
-static uint8_t word[LETTERS], record1[6 + 4 * LETTERS], record2[6 + 4 * LETTERS];
-static uint8_t t_minus[2 * CARETS + 1], t_plus[2 * CARETS + 1];
+static uint8_t word[LETTERS], record1[THOMPSON_RECORD(LETTERS)], record2[THOMPSON_RECORD(LETTERS)];
+static uint8_t t_minus[THOMPSON_SHAPE(THOMPSON_CARETS)], t_plus[THOMPSON_SHAPE(THOMPSON_CARETS)];
 static uint16_t b1[LETTERS + 1], a1[LETTERS + 1], b2[LETTERS + 1], a2[LETTERS + 1];
 static size_t length;
-static Answer answer;
+static thompson_answer answer;
 
 static void *nothing(void *p) { return p; }
 
@@ -39,6 +31,11 @@ static void *check_record(void *p) {
 static void *same_element(void *p) {
     thompson_same_element(word, LETTERS, b1, LETTERS + 1, a1, LETTERS + 1, record1, sizeof record1,
                           word, LETTERS, b2, LETTERS + 1, a2, LETTERS + 1, record2, sizeof record2);
+    return p;
+}
+
+static void *record_to_word(void *p) {
+    answer = thompson_record_to_word(record1, length, word, LETTERS);
     return p;
 }
 
@@ -145,6 +142,11 @@ int main(void) {
     printf("word to record         %zu bytes more\n", depth(word_to_record) - none);
     printf("record check           %zu bytes more\n", depth(check_record) - none);
     printf("two words              %zu bytes more\n", depth(same_element) - none);
+    length = 0;
+    put_field(1, 1, (const int[][2]){{LETTERS / 2, 2}});
+    put_field(2, 0, 0);
+    printf("record to word         %zu bytes more\n", depth(record_to_word) - none);
+    if (answer.value != LETTERS) printf("%d letters\n", (int)answer.value);
     tree_calls("record to tree pair", record_to_tree_pair, none);
     tree_calls("record to length", record_to_length, none);
     return 0;

@@ -25,8 +25,8 @@ refusal-of-requires c κs = search needs
 
 returns : tie.Need-returns
 returns c =
-    pair-refused own-cleared (c .before .before .before .before .before .record-to-tables .ensures) (c .before .enum-told2
-    .given .1) _ (c .refusal-of .ensures)
+    pair-refused own-cleared (c .before .before .before .before .before .record-to-tables .ensures) (c .before
+    .enum-told2 .given .1) _ (c .refusal-of .ensures)
 
 slice-aggregate-write-pair : tie.Need-slice-aggregate-write-pair
 slice-aggregate-write-pair c = search needs

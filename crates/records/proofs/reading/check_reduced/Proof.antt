@@ -3,10 +3,6 @@ use Rattle.records.proofs.Checks.{reduced-by}
 use borrow.Author.Needs.{needs}
 use Rattle.records.proofs.reading.check_reduced.Statement.{statement}
 use Rattle.records.proofs.reading.check_reduced.Tie as tie
-use Rattle.records.proofs.reading.check_reduced.Reads as reads
-use Rattle.records.proofs.reading.check_reduced.Lts as lts
-use Rattle.records.proofs.reading.fill_fields.Reads as fill-fields-reads
-use Rattle.records.proofs.reading.first_break.Reads as first-break-reads
 
 slice-aggregate-fill-fields : tie.Need-slice-aggregate-fill-fields
 slice-aggregate-fill-fields c = search needs

@@ -1,0 +1,66 @@
+-- The field with a tag at a place, one condition after another. Assumes nothing.
+use mathlib.Core.Path.{_≡_, refl, sym, ap, _∙_}
+use mathlib.Core.Bool.{Bool, true, false, cond}
+use mathlib.Core.List.{List}
+use Prim.Native.Nat.{ℕ, _+_, _<_, _≤_}
+use native.Mathlib.Omega.{arith}
+use lib.ListN.{length, getD}
+use lib.Dec.{eqb, ltb}
+use borrow.Author.Tests.{ltb-false, eqb-true, lt-ltb, le-ltb, eq-eqb, ne-eqb}
+use Rattle.records.specs.declared.field_reader.Field.the-variants.{Body, Missing}
+use Rattle.records.specs.Reading.{twoAt}
+use Rattle.records.specs.FieldReading.{headSize, fieldAt, fieldEnd, lastFieldAt}
+
+pub field-no-head : (s : List ℕ) (at tag : ℕ) → length s < at + headSize → Missing ≡ fieldAt s at tag
+field-no-head s at tag h = simp (lt-ltb (length s) (at + headSize) h)
+
+pub field-no-tag : (s : List ℕ) (at tag : ℕ) → at + headSize ≤ length s → (getD s at 0 ≡ tag → ⊥)
+    → Missing ≡ fieldAt s at tag
+field-no-tag s at tag h n = simp (le-ltb (length s) (at + headSize) h, ne-eqb (getD s at 0) tag n)
+
+pub field-cut : (s : List ℕ) (at tag n : ℕ) → at + headSize ≤ length s → getD s at 0 ≡ tag → n ≡ twoAt s (at + 1)
+    → length s < at + headSize + n → Missing ≡ fieldAt s at tag
+field-cut s at tag n h e size lt =
+    simp (
+      le-ltb (length s) (at + headSize) h,
+      eq-eqb (getD s at 0) tag e,
+      lt-ltb (length s) (at + headSize + twoAt s (at + 1)) (omega (arith, lt, size)),
+    )
+
+-- The field with a tag that stands at a place, with a body of n bytes.
+pub record Found (s : List ℕ) (at tag n : ℕ) : Type 0 where
+  pub tagged : getD s at 0 ≡ tag
+  pub size : n ≡ twoAt s (at + 1)
+  pub within : at + headSize + n ≤ length s
+
+pub field-found : (s : List ℕ) (at tag n : ℕ) → Found s at tag n → Body n ≡ fieldAt s at tag
+field-found s at tag n h =
+    ap Body (h .size)
+    ∙ simp (
+      le-ltb (length s) (at + headSize) (omega (arith, h .within)),
+      eq-eqb (getD s at 0) tag (h .tagged),
+      le-ltb (length s) (at + headSize + twoAt s (at + 1)) (omega (arith, h .within, h .size)),
+    )
+
+pub field-opens : (s : List ℕ) (at tag n : ℕ) → fieldAt s at tag ≡ Body n → Found s at tag n
+field-opens s at tag n e = go (ltb (length s) (at + headSize)) (eqb (getD s at 0) tag)
+    (ltb (length s) (at + headSize + twoAt s (at + 1))) refl refl e
+  where
+    go : (p q r : Bool) → eqb (getD s at 0) tag ≡ q → ltb (length s) (at + headSize + twoAt s (at + 1)) ≡ r
+        → cond p Missing (cond q (cond r Missing (Body (twoAt s (at + 1)))) Missing) ≡ Body n → Found s at tag n
+    go false true false t u h =
+        let size : twoAt s (at + 1) ≡ n = cc in
+        record {
+          tagged = eqb-true (getD s at 0) tag t;
+          size = sym size;
+          within = omega (arith, size, ltb-false (length s) (at + headSize + twoAt s (at + 1)) u);
+        }
+    go false true true t u h = let w : _≡_ {A = ℕ} 0 1 = cc in absurd (omega arith)
+    go false false r t u h = let w : _≡_ {A = ℕ} 0 1 = cc in absurd (omega arith)
+    go true q r t u h = let w : _≡_ {A = ℕ} 0 1 = cc in absurd (omega arith)
+
+pub last-field-cut : (s : List ℕ) (at tag : ℕ) → (fieldEnd s at tag ≡ length s → ⊥) → Missing ≡ lastFieldAt s at tag
+last-field-cut s at tag n = simp (ne-eqb (fieldEnd s at tag) (length s) n)
+
+pub last-field-ends : (s : List ℕ) (at tag : ℕ) → fieldEnd s at tag ≡ length s → fieldAt s at tag ≡ lastFieldAt s at tag
+last-field-ends s at tag e = simp (eq-eqb (fieldEnd s at tag) (length s) e)

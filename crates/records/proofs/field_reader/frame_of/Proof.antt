@@ -1,0 +1,49 @@
+-- `frame_of` meets its contract. Assumes nothing.
+use borrow.Author.Needs.{needs}
+use Rattle.records.proofs.FramedFields.{framed-first-broken, framed-second-broken, framed-exact}
+use Rattle.records.proofs.field_reader.frame_of.Statement.{statement}
+use Rattle.records.proofs.field_reader.frame_of.Tie as tie
+
+enum-known-b : tie.Need-enum-known-b
+enum-known-b c = search needs
+
+enum-told : tie.Need-enum-told
+enum-told c = search needs
+
+returns : tie.Need-returns
+returns c = search needs
+
+enum-known-a : tie.Need-enum-known-a
+enum-known-a c = search needs
+
+enum-told-2 : tie.Need-enum-told-2
+enum-told-2 c = search needs
+
+returns-2 : tie.Need-returns-2
+returns-2 c = search needs
+
+returns-3 : tie.Need-returns-3
+returns-3 c = framed-first-broken (c .before .before .before .before .before .b .given .1)
+    (c .before .before .a .given .1) (c .if1 .taken)
+
+returns-4 : tie.Need-returns-4
+returns-4 c = framed-second-broken (c .before .before .before .before .before .before .b .given .1)
+    (c .before .before .before .a .given .1) (c .before .if1 .left) (c .if2 .taken)
+
+returns-5 : tie.Need-returns-5
+returns-5 c = framed-exact (c .before .before .before .before .before .before .b .given .1)
+    (c .before .before .before .a .given .1) (c .before .if1 .left) (c .if2 .left)
+
+pub frame-of-spec : {M : Type 1} → statement M
+frame-of-spec =
+    tie.close
+    (tie.spec
+    enum-known-b
+    enum-told
+    returns
+    enum-known-a
+    enum-told-2
+    returns-2
+    returns-3
+    returns-4
+    returns-5)

@@ -1,0 +1,99 @@
+-- `record_to_word` meets its contract. Assumes nothing.
+use native.Mathlib.Omega.{arith}
+use borrow.Author.Needs.{needs}
+use Rattle.spelling.proofs.Answers.{own-cleared, word-refused, word-long, word-short, word-answer}
+use Rattle.spelling.proofs.record_to_word.Statement.{statement}
+use Rattle.spelling.proofs.record_to_word.Tie as tie
+
+slice-aggregate-record-to-tables : tie.Need-slice-aggregate-record-to-tables
+slice-aggregate-record-to-tables c = search needs
+
+slice-aggregate-record-to-tables-2 : tie.Need-slice-aggregate-record-to-tables-2
+slice-aggregate-record-to-tables-2 c = search needs
+
+record-to-tables-requires : tie.Need-record-to-tables-requires
+record-to-tables-requires c κs = search needs
+
+enum-told : tie.Need-enum-told
+enum-told c = search needs
+
+enum-told-2 : tie.Need-enum-told-2
+enum-told-2 c = search needs
+
+refusal-of-requires : tie.Need-refusal-of-requires
+refusal-of-requires c κs = search needs
+
+returns : tie.Need-returns
+returns c =
+    word-refused own-cleared (c .before .before .before .before .before .record-to-tables .ensures) (c .before
+    .enum-told2 .given .1) _ (c .refusal-of .ensures)
+
+slice-aggregate-count : tie.Need-slice-aggregate-count
+slice-aggregate-count c = search needs
+
+slice-aggregate-count-2 : tie.Need-slice-aggregate-count-2
+slice-aggregate-count-2 c = search needs
+
+count-requires : tie.Need-count-requires
+count-requires c κs = search needs
+
+returns-2 : tie.Need-returns-2
+returns-2 c =
+    let counted = c .before in
+    let told = counted .before .before .before in
+    let read = told .before .before .before .before .record-to-tables .ensures in
+    word-long own-cleared read (told .enum-told .given .1)
+    (counted .count .result) (counted .count .ensures) (omega arith)
+
+returns-3 : tie.Need-returns-3
+returns-3 c =
+    let counted = c .before .before in
+    let told = counted .before .before .before in
+    let read = told .before .before .before .before .record-to-tables .ensures in
+    word-short own-cleared read (told .enum-told .given .1)
+    (counted .count .result) (counted .count .ensures) (omega arith) (omega arith)
+
+slice-aggregate-write : tie.Need-slice-aggregate-write
+slice-aggregate-write c = search needs
+
+slice-aggregate-write-2 : tie.Need-slice-aggregate-write-2
+slice-aggregate-write-2 c = search needs
+
+write-requires : tie.Need-write-requires
+write-requires c κs =
+    let counted = c .before .before .before .before .before in
+    ((search needs, search needs), omega (arith, counted .count .ensures))
+
+same-length : tie.Need-same-length
+same-length c = search needs
+
+returns-4 : tie.Need-returns-4
+returns-4 c =
+    let wrote = c .before .before in
+    let counted = wrote .before .before .before .before .before .before in
+    let told = counted .before .before .before in
+    let read = told .before .before .before .before .record-to-tables .ensures in
+    word-answer own-cleared read (told .enum-told .given .1)
+    (counted .count .result) (counted .count .ensures) (omega arith) (omega arith) (wrote .write .ensures)
+
+pub record-to-word-spec : {M : Type 1} → statement M
+record-to-word-spec =
+    tie.close
+    (tie.spec
+    slice-aggregate-record-to-tables
+    slice-aggregate-record-to-tables-2
+    record-to-tables-requires
+    enum-told
+    enum-told-2
+    refusal-of-requires
+    returns
+    slice-aggregate-count
+    slice-aggregate-count-2
+    count-requires
+    returns-2
+    returns-3
+    slice-aggregate-write
+    slice-aggregate-write-2
+    write-requires
+    same-length
+    returns-4)

@@ -1,0 +1,56 @@
+/* A program in C over libthompson.a: for each word on the command line its record, its tree pair and its length, and
+   a word that the record spells.
+       words abA ba */
+#include "thompson.h"
+
+#include <inttypes.h>
+#include <stdio.h>
+#include <string.h>
+
+static uint16_t b_table[THOMPSON_TABLE(THOMPSON_LIMIT)], a_table[THOMPSON_TABLE(THOMPSON_LIMIT)];
+static uint8_t record[THOMPSON_RECORD(THOMPSON_LIMIT)], letters[THOMPSON_LIMIT];
+static uint8_t t_minus[THOMPSON_SHAPE(THOMPSON_CARETS)], t_plus[THOMPSON_SHAPE(THOMPSON_CARETS)];
+
+/* Whether the call was accepted; else its refusal is printed. */
+static int accepted(const char *what, thompson_answer answer) {
+    if (answer.refusal == THOMPSON_ACCEPTED) return 1;
+    printf("  %s: refused %" PRIu64 ", place %" PRIu64 "\n", what, answer.refusal, answer.value);
+    return 0;
+}
+
+static void print_hexadecimal(const char *what, const uint8_t *bytes, size_t n) {
+    printf("  %s ", what);
+    for (size_t i = 0; i < n; i++) printf("%02x", bytes[i]);
+    printf("\n");
+}
+
+static void print_shape(const char *what, const uint8_t *shape, size_t carets) {
+    printf("  %s ", what);
+    for (size_t i = 0; i < THOMPSON_SHAPE(carets); i++) printf("%d", shape[i]);
+    printf("\n");
+}
+
+static void print_word(const char *word) {
+    printf("word %s\n", word);
+    thompson_answer written =
+        thompson_word_to_record((const uint8_t *)word, strlen(word), b_table, sizeof b_table / sizeof *b_table, a_table,
+                                sizeof a_table / sizeof *a_table, record, sizeof record);
+    if (!accepted("record", written)) return;
+    print_hexadecimal("record", record, written.value);
+    thompson_answer pair =
+        thompson_record_to_tree_pair(record, written.value, t_minus, sizeof t_minus, t_plus, sizeof t_plus);
+    if (accepted("tree pair", pair)) {
+        printf("  carets %" PRIu64 "\n", pair.value);
+        print_shape("T-", t_minus, pair.value);
+        print_shape("T+", t_plus, pair.value);
+    }
+    thompson_answer length = thompson_record_to_length(record, written.value);
+    if (accepted("length", length)) printf("  length %" PRIu64 "\n", length.value);
+    thompson_answer spelled = thompson_record_to_word(record, written.value, letters, sizeof letters);
+    if (accepted("spelling", spelled)) printf("  spelled %.*s\n", (int)spelled.value, (const char *)letters);
+}
+
+int main(int argc, char **argv) {
+    for (int i = 1; i < argc; i++) print_word(argv[i]);
+    return 0;
+}

@@ -1,0 +1,151 @@
+// A program in Rust over libthompson.a: for each word on the command line its record, its tree pair and its length, and
+// a word that the record spells. The module `thompson` is a safe face of the calls: a Rust slice is a valid pointer
+// with its length, and a `&mut` slice overlaps nothing else, which is all that the calls ask.
+//     words abA ba
+
+mod thompson {
+    // A refusal's number and place, or 0 and the call's value.
+    #[repr(C)]
+    struct Answer {
+        refusal: u64,
+        value: u64,
+    }
+
+    // The most letters of a word, and the most carets of a tree.
+    pub const LIMIT: usize = 4096;
+    const CARETS: usize = 2 * LIMIT + 1;
+
+    // Why a call refused: the number and the place.
+    pub struct Refused {
+        pub number: u64,
+        pub place: u64,
+    }
+
+    // The two trees of a pair, a byte for each node.
+    pub struct TreePair {
+        pub carets: usize,
+        pub minus: Vec<u8>,
+        pub plus: Vec<u8>,
+    }
+
+    extern "C" {
+        fn thompson_word_to_record(
+            word: *const u8,
+            letters: usize,
+            b_table: *mut u16,
+            b_entries: usize,
+            a_table: *mut u16,
+            a_entries: usize,
+            record: *mut u8,
+            record_size: usize,
+        ) -> Answer;
+        fn thompson_record_to_word(record: *const u8, record_size: usize, word: *mut u8, word_size: usize) -> Answer;
+        fn thompson_record_to_tree_pair(
+            record: *const u8,
+            record_size: usize,
+            t_minus: *mut u8,
+            t_minus_size: usize,
+            t_plus: *mut u8,
+            t_plus_size: usize,
+        ) -> Answer;
+        fn thompson_record_to_length(record: *const u8, record_size: usize) -> Answer;
+    }
+
+    fn value(answer: Answer) -> Result<usize, Refused> {
+        match answer.refusal {
+            0 => Ok(answer.value as usize),
+            number => Err(Refused { number, place: answer.value }),
+        }
+    }
+
+    // The record of a word.
+    pub fn record(word: &[u8]) -> Result<Vec<u8>, Refused> {
+        let mut b = vec![0u16; word.len() + 1];
+        let mut a = vec![0u16; word.len() + 1];
+        let mut bytes = vec![0u8; 6 + 4 * word.len()];
+        let answer = unsafe {
+            thompson_word_to_record(
+                word.as_ptr(),
+                word.len(),
+                b.as_mut_ptr(),
+                b.len(),
+                a.as_mut_ptr(),
+                a.len(),
+                bytes.as_mut_ptr(),
+                bytes.len(),
+            )
+        };
+        bytes.truncate(value(answer)?);
+        Ok(bytes)
+    }
+
+    // The word that a record spells.
+    pub fn word(record: &[u8]) -> Result<Vec<u8>, Refused> {
+        let mut letters = vec![0u8; LIMIT];
+        let answer =
+            unsafe { thompson_record_to_word(record.as_ptr(), record.len(), letters.as_mut_ptr(), letters.len()) };
+        letters.truncate(value(answer)?);
+        Ok(letters)
+    }
+
+    // The tree pair of a record.
+    pub fn tree_pair(record: &[u8]) -> Result<TreePair, Refused> {
+        let mut minus = vec![0u8; 2 * CARETS + 1];
+        let mut plus = vec![0u8; 2 * CARETS + 1];
+        let answer = unsafe {
+            thompson_record_to_tree_pair(
+                record.as_ptr(),
+                record.len(),
+                minus.as_mut_ptr(),
+                minus.len(),
+                plus.as_mut_ptr(),
+                plus.len(),
+            )
+        };
+        let carets = value(answer)?;
+        minus.truncate(2 * carets + 1);
+        plus.truncate(2 * carets + 1);
+        Ok(TreePair { carets, minus, plus })
+    }
+
+    // The length of a record.
+    pub fn length(record: &[u8]) -> Result<usize, Refused> {
+        value(unsafe { thompson_record_to_length(record.as_ptr(), record.len()) })
+    }
+}
+
+use thompson::Refused;
+
+fn digits(shape: &[u8]) -> String {
+    shape.iter().map(|node| node.to_string()).collect()
+}
+
+fn print_refused(what: &str, refused: Refused) {
+    println!("  {what}: refused {}, place {}", refused.number, refused.place);
+}
+
+fn print_word(word: &str) {
+    println!("word {word}");
+    let record = match thompson::record(word.as_bytes()) {
+        Ok(record) => record,
+        Err(refused) => return print_refused("record", refused),
+    };
+    let hexadecimal: String = record.iter().map(|byte| format!("{byte:02x}")).collect();
+    println!("  record {hexadecimal}");
+    match thompson::tree_pair(&record) {
+        Ok(pair) => println!("  carets {}\n  T- {}\n  T+ {}", pair.carets, digits(&pair.minus), digits(&pair.plus)),
+        Err(refused) => print_refused("tree pair", refused),
+    }
+    match thompson::length(&record) {
+        Ok(length) => println!("  length {length}"),
+        Err(refused) => print_refused("length", refused),
+    }
+    match thompson::word(&record) {
+        Ok(letters) => println!("  spelled {}", String::from_utf8_lossy(&letters)),
+        Err(refused) => print_refused("spelling", refused),
+    }
+}
+
+fn main() {
+    std::env::args().skip(1).for_each(|word| print_word(&word));
+}

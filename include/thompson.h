@@ -1,0 +1,116 @@
+/* Thompson's group F: each element listed once. The calls of libthompson.a, which `rt staticlib thompson` proves and
+   builds, for C and for anything that can call C on x86-64.
+
+   Every call answers two numbers by value. `refusal` is 0 where the call was accepted, and `value` is then what the
+   call answers; else `refusal` is the number of the refusal and `value` its place, and every byte that was lent is as
+   it was before the call. A call asks nothing of the bytes it is given, always returns, and keeps nothing: no memory
+   is allocated, no file is touched, nothing is remembered from one call to the next.
+
+   What is proved of each call is its contract (crates/thompson/src/lib.rt) on every input. What no contract can say,
+   and the caller must see to, is this:
+
+   1. Each pointer is valid for its length: it points to that many elements, for reading (const) or for reading and
+      writing (the others), aligned as the element's type asks, until the call returns. The lengths are counted in
+      elements: bytes, or 16-bit numbers for tables.
+   2. What is lent for writing overlaps nothing else that is lent to the same call. What is lent for reading only may
+      be the same memory twice.
+   3. Nothing else, such as another thread, changes what is lent while the call runs.
+   4. There is stack: 900,000 bytes are enough for every call.
+
+   A pointer with length 0 may be anything, null too: it is never looked through. (This last is tested, in
+   examples/run, and not proved.)
+
+   Words are bytes `a`, `A`, `b`, `B`, for x0, its inverse, x1, its inverse; the rightmost letter acts first. A word
+   has at most THOMPSON_LIMIT letters. A record is the bytes of a reduced form; each element has one. */
+#ifndef THOMPSON_H
+#define THOMPSON_H
+
+#include <stddef.h>
+#include <stdint.h>
+
+#ifdef __cplusplus
+extern "C" {
+#endif
+
+/* The most letters of a word; also the highest index and the highest sum of exponents of a record. */
+#define THOMPSON_LIMIT 4096
+
+/* The entries that each table needs for a word of n letters. */
+#define THOMPSON_TABLE(n) ((size_t)(n) + 1)
+
+/* The bytes that the record buffer needs for a word of n letters. */
+#define THOMPSON_RECORD(n) (6 + 4 * (size_t)(n))
+
+/* The most carets of a tree, and the bytes of the shape of a tree with n carets. */
+#define THOMPSON_CARETS (2 * THOMPSON_LIMIT + 1)
+#define THOMPSON_SHAPE(n) (2 * (size_t)(n) + 1)
+
+/* The refusals. The order in which a call tests them stands with the call. */
+enum {
+    THOMPSON_ACCEPTED = 0,
+    THOMPSON_TOO_MANY_LETTERS = 1, /* more letters than the limit; place: the limit */
+    THOMPSON_NOT_LETTER = 2,       /* a byte that is no letter; place: the offset of the first */
+    THOMPSON_BAD_FRAME = 3,        /* two fields do not frame the record, or a body is no multiple of four; place 0 */
+    THOMPSON_BAD_ENTRY = 4,        /* an entry that breaks a rule; place: the offset of the first */
+    THOMPSON_NOT_REDUCED = 5,      /* the form is not reduced; place: the smallest index that breaks the clause */
+    THOMPSON_SHORT_TABLE = 6,      /* a table too short; place 0 */
+    THOMPSON_SHORT_BUFFER = 7,     /* an output buffer too short; place 0 */
+    THOMPSON_LONG_SPELLING = 8     /* the spelling has more letters than the limit; place 0 */
+};
+
+/* A refusal's number and place, or 0 and the call's value. */
+typedef struct {
+    uint64_t refusal;
+    uint64_t value;
+} thompson_answer;
+
+/* Word to record.
+   Lent: the word, n letters; two tables of at least n + 1 entries each; a record buffer of at least 6 + 4 n bytes.
+   Value: the bytes of the record, which stand at the front of the buffer. Entry i of the tables, for i up to n, is then
+   the exponent of x_i (b table) and of its inverse (a table). Everything beyond is unchanged.
+   Refusals, in this order: 1, 2, 6, 7. */
+thompson_answer thompson_word_to_record(const uint8_t *word, size_t letters, uint16_t *b_table, size_t b_entries,
+                                        uint16_t *a_table, size_t a_entries, uint8_t *record, size_t record_size);
+
+/* Record check. Nothing is written.
+   Lent: the record, all its bytes and no more.
+   Value: 0.
+   Refusals, in this order: 3, 4, 5. */
+thompson_answer thompson_check_record(const uint8_t *record, size_t record_size);
+
+/* Record to word: each power of the form in order, through its letters, freely reduced.
+   Lent: the record; a buffer with a byte for each letter of the word, THOMPSON_LIMIT bytes at most.
+   Value: the number of letters, which stand at the front of the buffer; bytes beyond are unchanged.
+   Refusals, in this order: 3, 4, 5, 8, 7. */
+thompson_answer thompson_record_to_word(const uint8_t *record, size_t record_size, uint8_t *word, size_t word_size);
+
+/* Record to tree pair.
+   Lent: the record; two buffers of at least 2 N + 1 bytes, THOMPSON_SHAPE(THOMPSON_CARETS) at most.
+   Value: N, the carets of each tree. The shape of T- stands at the front of the first buffer, that of T+ at the front
+   of the second: a byte for each node, 1 for a caret and 0 for a leaf, a node before its left subtree before its right
+   one; bytes beyond are unchanged.
+   Refusals, in this order: 3, 4, 5, 7. */
+thompson_answer thompson_record_to_tree_pair(const uint8_t *record, size_t record_size, uint8_t *t_minus,
+                                             size_t t_minus_size, uint8_t *t_plus, size_t t_plus_size);
+
+/* Record to length, Fordham's sum over the carets of the tree pair. Nothing is written.
+   Lent: the record.
+   Value: the length.
+   Refusals, in this order: 3, 4, 5. */
+thompson_answer thompson_record_to_length(const uint8_t *record, size_t record_size);
+
+/* Two words: the same element or not.
+   Lent, for each word: what thompson_word_to_record takes; it is left as that call leaves it.
+   Value: 1 where the words are the same element, 0 where they are not.
+   Refusals: those of the first word, then those of the second, with 256 added to the number. After either, everything
+   that was lent with both words is as it was. */
+thompson_answer thompson_same_element(const uint8_t *word1, size_t letters1, uint16_t *b_table1, size_t b_entries1,
+                                      uint16_t *a_table1, size_t a_entries1, uint8_t *record1, size_t record_size1,
+                                      const uint8_t *word2, size_t letters2, uint16_t *b_table2, size_t b_entries2,
+                                      uint16_t *a_table2, size_t a_entries2, uint8_t *record2, size_t record_size2);
+
+#ifdef __cplusplus
+}
+#endif
+
+#endif
