@@ -85,7 +85,7 @@ module _ (u : List ℕ) (m : Memory) where
           judged-tables ∙ simp (le-ltb (length (m .buffer)) (bufferSize (length u)) (omega (arith, b)))
 
 -- Bytes that are no word have a first byte that is no letter, and no others do.
-word-lettered : (u : List ℕ) (w : Word) → readWord u ≡ isWord w → Unlettered u → ⊥
+pub word-lettered : (u : List ℕ) (w : Word) → readWord u ≡ isWord w → Unlettered u → ⊥
 word-lettered u w e (k, f) =
     let bad = not-letter u k .1 f in
     let z : _≡_ {A = ℕ} 0 1 = cc in omega arith

@@ -34,10 +34,11 @@ use Rattle.spelling.specs.Spelling.{Spells, spelling}
 use Rattle.spelling.specs.Contracts.{spelledIn, Spelled}
 use Rattle.spelling.proofs.Words.{spells, spells-only, spelling-length}
 use Rattle.words.specs.Recording.{Memory, recordOfWord, Recorded}
-use Rattle.claims.specs.Refusals.{LongSpelling, ShortWord, SpellingRefusal, unspelled, longSpelling, shortWord}
+use Rattle.claims.specs.Refusals.{ShortTable, ShortBuffer, NoWordRefusal, LongSpelling, ShortWord}
+use Rattle.claims.specs.Refusals.{SpellingRefusal, unspelled, longSpelling, shortWord}
 use Rattle.claims.specs.Demands.{RefusalsOfSpellings, WordOfRecord, RecordGivesWord}
 use Rattle.claims.specs.Spellings.{DeletingEnds, FormsAreSpelled, SpellingHasLength}
-use Rattle.claims.proofs.Refusals.{decoded↔refusal}
+use Rattle.claims.proofs.Refusals.{word-lettered, decoded↔refusal}
 use Rattle.claims.proofs.Records.{call-front, recorded-form}
 
 -- What is found of a record and a buffer of n bytes, in each of its cases.
@@ -213,6 +214,18 @@ joined-spelling {s} {w} {w′} {u} {m} {m′} {q} {n} {l} {y} {f} c h e b t =
     joined-trans (spelling-joined f)
     (subst (λ (g : Form). Joined (letters g) y) (sym same) (form-joined y))
 
+-- The spelling as a word that is sent.
+spelling-sent : {s w w′ : List ℕ} {n : ℕ} {f : Form} (m : Memory) → SpelledAs s w w′ n f
+    → (ShortTable (take n w′) m → ⊥) → (ShortBuffer (take n w′) m → ⊥) → NoWordRefusal (take n w′) m
+spelling-sent {s} {w} {w′} {n} {f} m c tables buffer =
+    let size : length (take n w′) ≡ length (spelling f) = ap length (front-spelled c) ∙ bytes-length (spelling f) in
+    record {
+      not-long = λ l. omega (arith, size, c .low, l);
+      lettered = word-lettered (take n w′) (spelling f) (ap readWord (front-spelled c) ∙ read-word (spelling f));
+      long-tables = tables;
+      long-buffer = buffer;
+    }
+
 -- The record of the spelling.
 spelling-again : {s w w′ : List ℕ} {m m′ : Memory} {q : Written} {n l : ℕ} {f : Form} → Bytes s
     → SpelledAs s w w′ n f → Recorded (take n w′) m m′ q → writtenOf q ≡ accepted l
@@ -242,6 +255,7 @@ record-gives-word = record {
       let c = spelled-as h a in
       let same : x ≡ spelling (c .0) = bytes-injective x (spelling (c .0)) (sym t ∙ front-spelled (c .1)) in
       subst (λ (z : Word). Joined z y) (sym same) (joined-spelling (c .1) g e b eq);
+  accepted-again = λ s w w′ m r n h a. spelling-sent m (spelled-as h a .1);
   record-again = λ s w w′ m m′ r q n l bytes h a g e. spelling-again bytes (spelled-as h a .1) g e;
 }
 

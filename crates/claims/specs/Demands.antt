@@ -25,8 +25,8 @@
 --                                                                  trees, Shapes; lengths, Kinds, Weights
 --     Spells f w           w is each x_k^e of f in order, through its letters, with neighbouring
 --                          inverse letters deleted until none is left     spelling, Spelling; group, FreeReduction
---     WordRefusal, NoWordRefusal, RecordRefusal, PairRefusal, SpellingRefusal   the refusals, by
---                          their conditions                                                      Refusals
+--     WordRefusal, NoWordRefusal, ShortTable, ShortBuffer, RecordRefusal, PairRefusal, SpellingRefusal
+--                          the refusals, by their conditions                                     Refusals
 --     Bytes s              every element of s is a byte                                          records, Faults
 -- Assumes nothing.
 use mathlib.Core.Path.{_≡_}
@@ -60,7 +60,8 @@ use Rattle.spelling.specs.Contracts.{Spelled}
 use Rattle.words.specs.Recording.{Memory, Recorded}
 use Rattle.words.specs.Comparing.{Compared, decisionOf, same, different, refusedWord}
 use Rattle.words.specs.declared.Comparison.{Comparison}
-use Rattle.claims.specs.Refusals.{WordRefusal, NoWordRefusal, RecordRefusal, PairRefusal, SpellingRefusal}
+use Rattle.claims.specs.Refusals.{ShortTable, ShortBuffer, WordRefusal, NoWordRefusal, RecordRefusal, PairRefusal}
+use Rattle.claims.specs.Refusals.{SpellingRefusal}
 
 -- Demand 1: each refusal is given under its condition and at no other time, and alters nothing.
 pub record RefusalsOfWords : Type 0 where
@@ -174,7 +175,8 @@ pub record WordOfRecord (s w w′ : List ℕ) (n : ℕ) : Type 0 where
   pub beyond : drop n w′ ≡ drop n w
   pub same-map : SameMap word (letters form)
 
--- It is given unless it passes the limit; it is joined to every word with that record, and its record is that record.
+-- It is given unless it passes the limit; it is joined to every word with that record; it is a word that is accepted
+-- where tables and buffer are long enough, and its record is that record.
 pub record RecordGivesWord : Type 0 where
   pub gives : (s w w′ : List ℕ) (r : Written) (n : ℕ) → Spelled s w w′ r → writtenOf r ≡ accepted n
       → WordOfRecord s w w′ n
@@ -184,6 +186,9 @@ pub record RecordGivesWord : Type 0 where
   pub joined : (s w w′ u : List ℕ) (m m′ : Memory) (r q : Written) (n l : ℕ) (x y : Word)
       → Spelled s w w′ r → writtenOf r ≡ accepted n → take n w′ ≡ bytesOf x
       → Recorded u m m′ q → writtenOf q ≡ accepted l → u ≡ bytesOf y → take l (m′ .buffer) ≡ s → Joined x y
+  pub accepted-again : (s w w′ : List ℕ) (m : Memory) (r : Written) (n : ℕ) → Spelled s w w′ r
+      → writtenOf r ≡ accepted n → (ShortTable (take n w′) m → ⊥) → (ShortBuffer (take n w′) m → ⊥)
+      → NoWordRefusal (take n w′) m
   pub record-again : (s w w′ : List ℕ) (m m′ : Memory) (r q : Written) (n l : ℕ) → Bytes s
       → Spelled s w w′ r → writtenOf r ≡ accepted n → Recorded (take n w′) m m′ q → writtenOf q ≡ accepted l
       → (l ≡ length s) × (take l (m′ .buffer) ≡ s)

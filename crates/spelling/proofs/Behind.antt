@@ -17,10 +17,6 @@ behind-append [] r s = refl
 behind-append (run k x e ∷ l) r s = behind-append l r (behindRun s k e)
 
 -- A power in front of runs.
-pub put-append : (k : ℕ) (x : Letter) (e : ℕ) (l : List Run) → putRun k x e l ≡ putRun k x e [] ++ l
-put-append k x zero l = refl
-put-append k x (suc e) l = refl
-
 pub behind-put : (k : ℕ) (x : Letter) (e : ℕ) (l : List Run) (s : Speller)
     → behindRuns s (putRun k x e l) ≡ behindRuns (behindPower s k e) l
 behind-put k x zero l s = refl

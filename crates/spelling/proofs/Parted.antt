@@ -18,6 +18,7 @@ use Rattle.group.specs.Bytes.{byteOf}
 use Rattle.group.proofs.Sizes.{exponent-behind}
 use Rattle.spelling.specs.Runs.{Run, run, putRun, rising, falling}
 use Rattle.spelling.specs.Spelling.{runs}
+use Rattle.spelling.proofs.Runs.{put-append}
 
 -- The letter b or its inverse.
 pub data OfB : Letter → Type 0 where
@@ -44,10 +45,6 @@ put-parted : (k : ℕ) (x : Letter) (e : ℕ) (l : List Run) → OfB x → (0 < 
     → Parted (putRun k x e l)
 put-parted k x zero l s n h = h
 put-parted k x (suc e) l s n h = more s (n (omega arith)) h
-
-put-append : (k : ℕ) (x : Letter) (e : ℕ) (l r : List Run) → putRun k x e l ++ r ≡ putRun k x e (l ++ r)
-put-append k x zero l r = refl
-put-append k x (suc e) l r = refl
 
 -- Runs of B.
 falling-next-B : (n : ℕ) (a : ℕ → ℕ) (k : ℕ) → Next k 'B (falling a n)

@@ -1,14 +1,19 @@
 -- Laws of runs: the runs of a form are those of its exponents up to any index above which no exponent is (01, 'What the
 -- desk can be asked', record to word). Assumes nothing.
 use mathlib.Core.Path.{_≡_, refl, sym, _∙_, ap, ap₂}
-use mathlib.Core.List.{[], _++_}
+use mathlib.Core.List.{List, [], _++_}
 use Prim.Native.Nat.{ℕ, zero, suc, _+_, _<_, _≤_}
 use native.Mathlib.Omega.{arith}
-use Rattle.group.specs.Letters.{'b, 'B}
+use Rattle.group.specs.Letters.{Letter, 'b, 'B}
 use Rattle.group.specs.Forms.{bSide, aSide, Form, exponent, levels}
 use Rattle.group.proofs.Sizes.{exponent-behind}
-use Rattle.spelling.specs.Runs.{putRun, rising, falling, runsUpTo}
+use Rattle.spelling.specs.Runs.{Run, putRun, rising, falling, runsUpTo}
 use Rattle.spelling.specs.Spelling.{runs}
+
+-- A run in front of others, and further runs behind them.
+pub put-append : (k : ℕ) (x : Letter) (e : ℕ) (l r : List Run) → putRun k x e l ++ r ≡ putRun k x e (l ++ r)
+put-append k x zero l r = refl
+put-append k x (suc e) l r = refl
 
 -- The runs of equal exponents.
 rising-same : (m k : ℕ) (b c : ℕ → ℕ) → ((i : ℕ) → b i ≡ c i) → rising b k m ≡ rising c k m

@@ -15,7 +15,8 @@ use Rattle.group.proofs.Bytes.{bytes-length, bytes-append, bytes-replicate}
 use Rattle.spelling.specs.Runs.{Run, putRun, turn, runLetters, spelt}
 use Rattle.spelling.specs.Steps.{behindRun, behindRuns, WroteRuns}
 use Rattle.spelling.specs.declared.speller.Speller.{Speller}
-use Rattle.spelling.proofs.Behind.{behind-append, put-append, behind-put, behind-count, letters-append}
+use Rattle.spelling.proofs.Runs.{put-append}
+use Rattle.spelling.proofs.Behind.{behind-append, behind-put, behind-count, letters-append}
 use Rattle.spelling.proofs.Behind.{spelt-behind}
 use Rattle.spelling.proofs.Rest.{First, Leads, leads-start, leads-more, leads-done}
 
@@ -110,7 +111,7 @@ puts-more {left} {rest} {l} {now} {next} {start} {k} {e} {x} p f w = record {
   where
     parts : runBytes now left ≡ runBytes now (putRun k x e []) ++ runBytes next rest
     parts =
-        ap (runBytes now) (f .begins ∙ put-append k x e rest)
+        ap (runBytes now) (f .begins ∙ sym (put-append k x e [] rest))
         ∙ bytes-runs (putRun k x e []) rest now next (w .state)
 
 -- No run is left.

@@ -6,6 +6,7 @@ mod forms;
 #[allow(dead_code)]
 #[path = "../pairs/plain.rs"]
 mod plain;
+#[allow(dead_code)]
 #[path = "../speed/words.rs"]
 mod words;
 
