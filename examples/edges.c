@@ -1,0 +1,83 @@
+/* The edges of the calls: null pointers with length 0, and the sizes that the header gives, each exact and one short.
+   Each row prints the answer and whether it is the one that is wanted; the program ends with 1 where a row is wrong. */
+#include "thompson.h"
+
+#include <inttypes.h>
+#include <stdio.h>
+#include <string.h>
+
+static const uint8_t identity[6] = {1, 0, 0, 2, 0, 0};
+static uint8_t word[THOMPSON_LIMIT + 1], record[THOMPSON_RECORD(THOMPSON_LIMIT)], record2[6];
+static uint16_t b_table[THOMPSON_TABLE(THOMPSON_LIMIT)], a_table[THOMPSON_TABLE(THOMPSON_LIMIT)];
+static uint16_t b_table2[1], a_table2[1];
+static uint8_t t_minus[THOMPSON_SHAPE(THOMPSON_CARETS)], t_plus[THOMPSON_SHAPE(THOMPSON_CARETS)];
+static int wrong;
+
+static void row(const char *what, thompson_answer answer, uint64_t refusal, uint64_t value) {
+    int right = answer.refusal == refusal && answer.value == value;
+    printf("  %-44s %" PRIu64 " %" PRIu64 " %s\n", what, answer.refusal, answer.value, right ? "right" : "WRONG");
+    if (!right) wrong = 1;
+}
+
+/* Null for each slice that may be empty. */
+static void null_pointers(void) {
+    printf("null pointers with length 0: refusal, value\n");
+    row("word to record, no word", thompson_word_to_record(0, 0, b_table, 1, a_table, 1, record, 6), 0, 6);
+    row("word to record, no table", thompson_word_to_record(0, 0, 0, 0, 0, 0, record, 6), 6, 0);
+    row("word to record, no buffer", thompson_word_to_record(0, 0, b_table, 1, a_table, 1, 0, 0), 7, 0);
+    row("record check, no record", thompson_check_record(0, 0), 3, 0);
+    row("record to word, no record", thompson_record_to_word(0, 0, 0, 0), 3, 0);
+    row("record to word, identity, no buffer", thompson_record_to_word(identity, 6, 0, 0), 0, 0);
+    row("record to tree pair, no record", thompson_record_to_tree_pair(0, 0, 0, 0, 0, 0), 3, 0);
+    row("record to tree pair, identity, no buffers", thompson_record_to_tree_pair(identity, 6, 0, 0, 0, 0), 7, 0);
+    row("record to length, no record", thompson_record_to_length(0, 0), 3, 0);
+    row("two words, no words",
+        thompson_same_element(0, 0, b_table, 1, a_table, 1, record, 6, 0, 0, b_table2, 1, a_table2, 1, record2, 6), 0,
+        1);
+    row("two words, nothing for the second",
+        thompson_same_element(0, 0, b_table, 1, a_table, 1, record, 6, 0, 0, 0, 0, 0, 0, 0, 0), 256 + 6, 0);
+}
+
+/* A word of n letters, with tables and a buffer that are so many elements short. */
+static thompson_answer sent(size_t n, size_t b_short, size_t a_short, size_t record_short) {
+    return thompson_word_to_record(word, n, b_table, THOMPSON_TABLE(n) - b_short, a_table, THOMPSON_TABLE(n) - a_short,
+                                   record, THOMPSON_RECORD(n) - record_short);
+}
+
+/* A record with one power of x_LIMIT on its b side. */
+static size_t put_power(size_t exponent) {
+    const uint8_t index[2] = {THOMPSON_LIMIT >> 8, THOMPSON_LIMIT & 255};
+    const uint8_t bytes[10] = {1, 0, 4, index[0], index[1], exponent >> 8, exponent & 255, 2, 0, 0};
+    memcpy(record, bytes, sizeof bytes);
+    return sizeof bytes;
+}
+
+static thompson_answer pair(size_t n, size_t minus_short, size_t plus_short) {
+    return thompson_record_to_tree_pair(record, n, t_minus, sizeof t_minus - minus_short, t_plus,
+                                        sizeof t_plus - plus_short);
+}
+
+/* The sizes of the header. */
+static void sizes(void) {
+    memset(word, 'a', sizeof word);
+    printf("the sizes of the header: refusal, value\n");
+    row("a word of THOMPSON_LIMIT letters", sent(THOMPSON_LIMIT, 0, 0, 0), 0, 10);
+    row("one letter more", thompson_word_to_record(word, THOMPSON_LIMIT + 1, b_table, 0, a_table, 0, record, 0), 1,
+        THOMPSON_LIMIT);
+    row("the b table one entry short", sent(THOMPSON_LIMIT, 1, 0, 0), 6, 0);
+    row("the a table one entry short", sent(THOMPSON_LIMIT, 0, 1, 0), 6, 0);
+    row("the record buffer one byte short", sent(THOMPSON_LIMIT, 0, 0, 1), 7, 0);
+    row("the spelling of THOMPSON_LIMIT letters",
+        thompson_record_to_word(record, sent(THOMPSON_LIMIT, 0, 0, 0).value, word, THOMPSON_LIMIT), 0, THOMPSON_LIMIT);
+    size_t n = put_power(THOMPSON_LIMIT);
+    row("THOMPSON_CARETS carets", pair(n, 0, 0), 0, THOMPSON_CARETS);
+    row("the first buffer one byte short", pair(n, 1, 0), 7, 0);
+    row("the second buffer one byte short", pair(n, 0, 1), 7, 0);
+    row("x_LIMIT alone, spelled", thompson_record_to_word(record, put_power(1), word, THOMPSON_LIMIT), 8, 0);
+}
+
+int main(void) {
+    null_pointers();
+    sizes();
+    return wrong;
+}
