@@ -9,7 +9,7 @@ use lib.Dec.{eqb, ltb}
 use borrow.Author.Tests.{ltb-false, eqb-true, lt-ltb, le-ltb, eq-eqb, ne-eqb}
 use Rattle.records.specs.declared.field_reader.Field.the-variants.{Body, Missing}
 use Rattle.records.specs.Reading.{twoAt}
-use Rattle.records.specs.FieldReading.{headSize, fieldAt, fieldEnd, lastFieldAt}
+use Rattle.records.specs.FieldReading.{headSize, fieldAt}
 
 pub field-no-head : (s : List ℕ) (at tag : ℕ) → length s < at + headSize → Missing ≡ fieldAt s at tag
 field-no-head s at tag h = simp (lt-ltb (length s) (at + headSize) h)
@@ -58,9 +58,3 @@ field-opens s at tag n e = go (ltb (length s) (at + headSize)) (eqb (getD s at 0
     go false true true t u h = let w : _≡_ {A = ℕ} 0 1 = cc in absurd (omega arith)
     go false false r t u h = let w : _≡_ {A = ℕ} 0 1 = cc in absurd (omega arith)
     go true q r t u h = let w : _≡_ {A = ℕ} 0 1 = cc in absurd (omega arith)
-
-pub last-field-cut : (s : List ℕ) (at tag : ℕ) → (fieldEnd s at tag ≡ length s → ⊥) → Missing ≡ lastFieldAt s at tag
-last-field-cut s at tag n = simp (ne-eqb (fieldEnd s at tag) (length s) n)
-
-pub last-field-ends : (s : List ℕ) (at tag : ℕ) → fieldEnd s at tag ≡ length s → fieldAt s at tag ≡ lastFieldAt s at tag
-last-field-ends s at tag e = simp (eq-eqb (fieldEnd s at tag) (length s) e)

@@ -35,8 +35,10 @@ pub mod Placing
 pub mod Breaks
 pub mod Checks
 pub mod Decodings
--- the calls of a walk by hand; what a field reader owns
+-- the calls of a walk by hand; what a field reader owns, its methods, and the places of readers
 pub mod Answers
 pub mod ReaderParts
+pub mod ReaderMethods
+pub mod ReaderPlaces
 -- the exponents of a record in tables of zeros
 pub mod ClearedTables

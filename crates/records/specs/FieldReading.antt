@@ -1,6 +1,5 @@
 -- The fields of a record, read one behind another from a place in its bytes (01, 'The record').
---     fieldAt        the field at a place        fieldEnd    the place behind it
---     lastFieldAt    with nothing behind it      framedBy    what two fields frame
+--     fieldAt    the field at a place    fieldEnd    the place behind it    framedBy    what two fields frame
 -- Assumes nothing.
 use mathlib.Core.Bool.{cond}
 use mathlib.Core.List.{List}
@@ -34,12 +33,9 @@ endOf s at Missing = length s
 abbrev pub fieldEnd : List ℕ → (at tag : ℕ) → ℕ
 fieldEnd s at tag = endOf s at (fieldAt s at tag)
 
--- The field with a tag at a place, where it ends with the bytes.
-abbrev pub lastFieldAt : List ℕ → (at tag : ℕ) → Field
-lastFieldAt s at tag = cond (eqb (fieldEnd s at tag) (length s)) (fieldAt s at tag) Missing
-
--- The frame of two fields: both stand, and neither body ends amid an entry.
-abbrev pub framedBy : Field → Field → Frame
-framedBy (Body n) (Body m) = cond (both (eqb (n % 4) 0) (eqb (m % 4) 0)) (Exact n m) Broken
-framedBy (Body n) Missing = Broken
-framedBy Missing a = Broken
+-- The frame of two fields: both stand, the second ends where the bytes end, and neither body ends amid an entry.
+abbrev pub framedBy : (b a : Field) (end length : ℕ) → Frame
+framedBy (Body n) (Body m) end length =
+    cond (both (eqb end length) (both (eqb (n % 4) 0) (eqb (m % 4) 0))) (Exact n m) Broken
+framedBy (Body n) Missing end length = Broken
+framedBy Missing a end length = Broken

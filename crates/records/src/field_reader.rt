@@ -1,6 +1,6 @@
 // The fields of a record, read one behind another (01, 'The record').
 ghost use mathlib.Core.Path.{_≡_};
-ghost use Rattle.records.specs.FieldReading.{fieldAt, fieldEnd, lastFieldAt, framedBy};
+ghost use Rattle.records.specs.FieldReading.{fieldAt, fieldEnd, framedBy};
 ghost use Rattle.records.specs.Steps.{frameOf};
 use super::A_TAG;
 use super::B_TAG;
@@ -54,19 +54,9 @@ fn field_end(s: &[u8], at: usize, tag: u8) -> usize
     }
 }
 
-// The field with a tag at a place, where it ends with the bytes.
-fn last_field_at(s: &[u8], at: usize, tag: u8) -> Field
-    ensures { λ r. ⌜ r ≡ lastFieldAt (now (s .entry)) at tag ⌝ }
-{
-    if field_end(s, at, tag) != s.len() {
-        return Field::Missing;
-    }
-    field_at(s, at, tag)
-}
-
-// The frame of two fields: both stand, and neither body ends amid an entry.
-fn frame_of(b: Field, a: Field) -> Frame
-    ensures { λ r. ⌜ r ≡ framedBy b a ⌝ }
+// The frame of two fields: both stand, the second ends where the bytes end, and neither body ends amid an entry.
+fn frame_of(b: Field, a: Field, end: usize, length: usize) -> Frame
+    ensures { λ r. ⌜ r ≡ framedBy b a end length ⌝ }
 {
     let Field::Body(b_length) = b else {
         return Frame::Broken;
@@ -74,6 +64,9 @@ fn frame_of(b: Field, a: Field) -> Frame
     let Field::Body(a_length) = a else {
         return Frame::Broken;
     };
+    if end != length {
+        return Frame::Broken;
+    }
     if b_length % 4 != 0 {
         return Frame::Broken;
     }
@@ -108,13 +101,6 @@ impl<'a> FieldReader<'a> {
             at: field_end(self.bytes, self.at, tag),
         }
     }
-
-    // The field with a tag at the place, with nothing behind it.
-    fn last_field(self, tag: u8) -> Field
-        ensures { λ r. ⌜ r ≡ lastFieldAt (now (self .entry .bytes)) (self .entry .at) tag ⌝ }
-    {
-        last_field_at(self.bytes, self.at, tag)
-    }
 }
 
 // The two fields: present, in order, ending where the bytes end, with whole entries.
@@ -124,6 +110,7 @@ pub fn read_frame(record: &[u8]) -> Frame
     let first = FieldReader::start(record);
     let b = first.field(B_TAG);
     let second = first.behind(B_TAG);
-    let a = second.last_field(A_TAG);
-    frame_of(b, a)
+    let a = second.field(A_TAG);
+    let end = second.behind(A_TAG);
+    frame_of(b, a, end.at, record.len())
 }

@@ -1,6 +1,12 @@
 -- `frame_of` meets its contract. Assumes nothing.
+use native.Mathlib.Omega.{arith}
 use borrow.Author.Needs.{needs}
-use Rattle.records.proofs.FramedFields.{framed-first-broken, framed-second-broken, framed-exact}
+use Rattle.records.proofs.FramedFields.{
+  framed-not-ended,
+  framed-first-broken,
+  framed-second-broken,
+  framed-exact,
+}
 use Rattle.records.proofs.field_reader.frame_of.Statement.{statement}
 use Rattle.records.proofs.field_reader.frame_of.Tie as tie
 
@@ -23,16 +29,28 @@ returns-2 : tie.Need-returns-2
 returns-2 c = search needs
 
 returns-3 : tie.Need-returns-3
-returns-3 c = framed-first-broken (c .before .before .before .before .before .b .given .1)
-    (c .before .before .a .given .1) (c .if1 .taken)
+returns-3 c = framed-not-ended (c .before .before .before .before .before .before .before .args .end)
+    (c .before .before .before .before .before .before .before .args .length)
+    (c .before .before .before .before .before .b .given .1) (c .before .before .a .given .1) (λ e. omega (arith, e))
 
 returns-4 : tie.Need-returns-4
-returns-4 c = framed-second-broken (c .before .before .before .before .before .before .b .given .1)
-    (c .before .before .before .a .given .1) (c .before .if1 .left) (c .if2 .taken)
+returns-4 c = framed-first-broken (c .before .before .before .before .before .before .before .before .args .end)
+    (c .before .before .before .before .before .before .before .before .args .length)
+    (c .before .before .before .before .before .before .b .given .1) (c .before .before .before .a .given .1)
+    (omega arith) (c .if2 .taken)
 
 returns-5 : tie.Need-returns-5
-returns-5 c = framed-exact (c .before .before .before .before .before .before .b .given .1)
-    (c .before .before .before .a .given .1) (c .before .if1 .left) (c .if2 .left)
+returns-5 c = framed-second-broken
+    (c .before .before .before .before .before .before .before .before .before .args .end)
+    (c .before .before .before .before .before .before .before .before .before .args .length)
+    (c .before .before .before .before .before .before .before .b .given .1)
+    (c .before .before .before .before .a .given .1) (omega arith) (c .before .if2 .left) (c .if3 .taken)
+
+returns-6 : tie.Need-returns-6
+returns-6 c = framed-exact (c .before .before .before .before .before .before .before .before .before .args .end)
+    (c .before .before .before .before .before .before .before .before .before .args .length)
+    (c .before .before .before .before .before .before .before .b .given .1)
+    (c .before .before .before .before .a .given .1) (omega arith) (c .before .if2 .left) (c .if3 .left)
 
 pub frame-of-spec : {M : Type 1} → statement M
 frame-of-spec =
@@ -46,4 +64,5 @@ frame-of-spec =
     returns-2
     returns-3
     returns-4
-    returns-5)
+    returns-5
+    returns-6)
