@@ -114,7 +114,15 @@ mod thompson {
     }
 }
 
+use std::io::Write;
+use std::os::unix::ffi::OsStringExt;
 use thompson::Refused;
+
+// Bytes as they are, whether they are text or not.
+fn print_bytes(what: &str, bytes: &[u8]) {
+    let line = [what.as_bytes(), b" ", bytes, b"\n"].concat();
+    std::io::stdout().write_all(&line).expect("standard output");
+}
 
 fn digits(shape: &[u8]) -> String {
     shape.iter().map(|node| node.to_string()).collect()
@@ -124,9 +132,9 @@ fn print_refused(what: &str, refused: Refused) {
     println!("  {what}: refused {}, place {}", refused.number, refused.place);
 }
 
-fn print_word(word: &str) {
-    println!("word {word}");
-    let record = match thompson::record(word.as_bytes()) {
+fn print_word(word: &[u8]) {
+    print_bytes("word", word);
+    let record = match thompson::record(word) {
         Ok(record) => record,
         Err(refused) => return print_refused("record", refused),
     };
@@ -141,11 +149,11 @@ fn print_word(word: &str) {
         Err(refused) => print_refused("length", refused),
     }
     match thompson::word(&record) {
-        Ok(letters) => println!("  spelled {}", String::from_utf8_lossy(&letters)),
+        Ok(letters) => print_bytes("  spelled", &letters),
         Err(refused) => print_refused("spelling", refused),
     }
 }
 
 fn main() {
-    std::env::args().skip(1).for_each(|word| print_word(&word));
+    std::env::args_os().skip(1).for_each(|word| print_word(&word.into_vec()));
 }

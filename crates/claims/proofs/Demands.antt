@@ -8,15 +8,18 @@ use native.Mathlib.Omega.{arith}
 use lib.ListN.{length}
 use Rattle.group.specs.Letters.{Word}
 use Rattle.group.specs.Chains.{Joined}
-use Rattle.refusals.specs.Outcomes.{Outcome, accepted, refused, checked, writtenOf}
+use Rattle.refusals.specs.Outcomes.{Outcome, accepted, refused, checked, verdictOf, writtenOf}
+use Rattle.refusals.specs.declared.Verdict.{Verdict}
 use Rattle.refusals.specs.declared.Written.{Written}
-use Rattle.refusals.proofs.Outcomes.{accepted-refused, checked-refused}
+use Rattle.refusals.proofs.Outcomes.{accepted-refused, checked-refused, accepted-when}
 use Rattle.records.specs.Reading.{decode}
+use Rattle.records.specs.Faults.{Bytes}
 use Rattle.words.specs.Recording.{Memory, judgedWith, recordOfWord, recorded, Recorded}
 use Rattle.words.specs.Comparing.{same, different, refusedWord, decided, decisionOf, sameBytes, beside, Compared}
 use Rattle.words.specs.declared.Comparison.{Comparison}
 use Rattle.words.proofs.Compared.{same-bytes, bytes-same}
 use Rattle.claims.specs.Refusals.{WordRefusal, long, unlettered, shortTable, shortBuffer, NoWordRefusal}
+use Rattle.claims.specs.Refusals.{RecordRefusal}
 use Rattle.claims.specs.Demands.{RefusalsOfWords, RefusalsOfRecords, RefusalsOfTwoWords, RecordKeepsMap}
 use Rattle.claims.specs.Demands.{EqualRecordsAreJoined, SameIsJoined, Demand1, Demand2, Demand3}
 use Rattle.claims.proofs.Refusals.{Judged, refuses, accepts, judge-word, judged↔refusal, judged-accepted}
@@ -84,12 +87,17 @@ refusals-of-words = record {
   nothing-altered = λ u m m′ r h n p e. left-refused n p (word-refused h n p e) (h .leaves);
 }
 
+record-just-when : (s : List ℕ) (r : Verdict) → Bytes s → verdictOf r ≡ checked (decode s) → (n p : ℕ)
+    → (verdictOf r ≡ refused n p) ↔ RecordRefusal s n p
+record-just-when s r bytes h n p = (
+  (λ e. decoded↔refusal s bytes n p .0 (checked-refused (decode s) (sym e ∙ h))),
+  (λ c. h ∙ ap (λ o. checked o) (decoded↔refusal s bytes n p .1 c)),
+)
+
 pub refusals-of-records : RefusalsOfRecords
 refusals-of-records = record {
-  refused-just-when = λ s r bytes h n p. (
-    (λ e. decoded↔refusal s bytes n p .0 (checked-refused (decode s) (sym e ∙ h))),
-    (λ c. h ∙ ap (λ o. checked o) (decoded↔refusal s bytes n p .1 c)),
-  );
+  refused-just-when = record-just-when;
+  accepted-just-when = λ s r bytes h. accepted-when (verdictOf r) (RecordRefusal s) (record-just-when s r bytes h);
 }
 
 -- The decision, by the two words' outcomes.

@@ -21,7 +21,7 @@ use Rattle.group.proofs.Congruence.{joined-trans, joined-sym}
 use Rattle.group.proofs.Products.{form-joined}
 use Rattle.group.proofs.Theorems.{joined-map, the-form-joined}
 use Rattle.group.proofs.FreeWords.{freely-joined}
-use Rattle.group.proofs.Deletions.{freely-deletions, freely-reduced, deletions-end}
+use Rattle.group.proofs.Deletions.{freely-deletions, freely-reduced, deletion-shorter, deletions-end}
 use Rattle.refusals.specs.Outcomes.{Outcome, accepted, refused, after, valued, writtenOf}
 use Rattle.refusals.specs.declared.Written.{Written}
 use Rattle.refusals.proofs.Outcomes.{accepted-same, accepted-refused, refused-number, refused-place}
@@ -262,6 +262,7 @@ record-gives-word = record {
 -- Free reduction ends, in whatever order, in one word.
 pub deleting-ends : DeletingEnds
 deleting-ends = record {
+  shorter = deletion-shorter;
   ends = λ u. (freely u, freely-deletions u, freely-reduced u);
   one-end = λ u v w d e f g. deletions-end u v d e ∙ sym (deletions-end u w f g);
 }

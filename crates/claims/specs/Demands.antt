@@ -75,6 +75,8 @@ pub record RefusalsOfWords : Type 0 where
 pub record RefusalsOfRecords : Type 0 where
   pub refused-just-when : (s : List ℕ) (r : Verdict) → Bytes s → verdictOf r ≡ checked (decode s) → (n p : ℕ)
       → (verdictOf r ≡ refused n p) ↔ RecordRefusal s n p
+  pub accepted-just-when : (s : List ℕ) (r : Verdict) → Bytes s → verdictOf r ≡ checked (decode s)
+      → ((n : ℕ) × (verdictOf r ≡ accepted n)) ↔ ((n p : ℕ) → RecordRefusal s n p → ⊥)
 
 pub record RefusalsOfTwoWords : Type 0 where
   pub first-just-when : (u v : List ℕ) (m m′ k k′ : Memory) (c : Comparison) → Compared u m m′ v k k′ c → (n p : ℕ)

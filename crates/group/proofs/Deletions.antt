@@ -3,6 +3,9 @@
 -- left, they lead to that word. Assumes nothing.
 use mathlib.Core.Path.{_≡_, refl, sym, _∙_, ap, subst}
 use mathlib.Core.List.{[], _∷_, _++_}
+use Prim.Native.Nat.{_+_}
+use native.Mathlib.Omega.{arith}
+use lib.ListN.{length, length-append}
 use Rattle.group.specs.Letters.{Letter, sameLetter, Word, inverseLetter}
 use Rattle.group.specs.FreeReduction.{Deletion, Deletions, stay, onward, FreelyReduced, pushOn, push, freely}
 use Rattle.group.proofs.Congruence.{Congruent, ≈-refl, ≈-drop, _⟫_, ≈-path, ≈-front}
@@ -63,6 +66,17 @@ reduced-stays (onward {v} d k) h = absurd (h v d)
 
 pub freely-fixed : (w : Word) → FreelyReduced w → freely w ≡ w
 freely-fixed w h = reduced-stays (freely-deletions w) h
+
+-- Each deletion takes two letters, so deletions come to an end.
+pub deletion-shorter : (u v : Word) → Deletion u v → length v + 2 ≡ length u
+deletion-shorter u v d =
+    omega (
+      arith,
+      ap length (d .neighbours),
+      ap length (d .left),
+      length-append (d .front) (d .letter ∷ inverseLetter (d .letter) ∷ d .back),
+      length-append (d .front) (d .back),
+    )
 
 -- The order of deleting does not matter.
 deletion-kept : {u v : Word} → Deletion u v → Congruent Pair u v

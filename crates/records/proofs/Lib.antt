@@ -36,7 +36,7 @@ pub mod Breaks
 pub mod Checks
 pub mod Decodings
 -- the calls of a walk by hand; what a field reader owns, its methods, and the places of readers
-pub mod Answers
+pub mod ReturnedCalls
 pub mod ReaderParts
 pub mod ReaderMethods
 pub mod ReaderPlaces

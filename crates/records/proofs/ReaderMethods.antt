@@ -31,7 +31,7 @@ use denote.Triple.Spec.{Meets, tripleOf}
 use denote.Triple.Walked.{says, Stays, stay-none, walkOf, goes-none, ends-at, walked, walk-meets}
 use denote.Exit.{yes}
 use Rattle.records.specs.declared.field_reader.FieldReader.{FieldReader}
-use Rattle.records.proofs.Answers.{answers}
+use Rattle.records.proofs.ReturnedCalls.{answers}
 use Rattle.records.proofs.ReaderParts.{Row, D, L, Own, whole, Entered, Asks, passes}
 use Rattle.records.proofs.field_reader.FieldReader.Laws as T′
 

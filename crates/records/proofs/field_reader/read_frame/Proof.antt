@@ -49,7 +49,7 @@ use Rattle.records.specs.FieldReading.{framedBy}
 use Rattle.records.specs.declared.reading.Frame.{Frame}
 use Rattle.records.specs.declared.field_reader.Field.{Field}
 use Rattle.records.specs.declared.field_reader.FieldReader.{FieldReader}
-use Rattle.records.proofs.Answers.{answers}
+use Rattle.records.proofs.ReturnedCalls.{answers}
 use Rattle.records.proofs.ReaderParts.{Row, D, L}
 use Rattle.records.proofs.ReaderMethods.{calls-method}
 use Rattle.records.proofs.ReaderPlaces.{StandsAt, IsField, IsBehind, framed-read}

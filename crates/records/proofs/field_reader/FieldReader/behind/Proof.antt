@@ -36,7 +36,7 @@ use denote.Triple.Spec.{Meets, tripleOf}
 use denote.Triple.Table.{entered, cited}
 use Rattle.records.specs.FieldReading.{fieldEnd}
 use Rattle.records.specs.declared.field_reader.FieldReader.{FieldReader}
-use Rattle.records.proofs.Answers.{answers}
+use Rattle.records.proofs.ReturnedCalls.{answers}
 use Rattle.records.proofs.ReaderParts as RP
 use Rattle.records.proofs.ReaderParts.{Row, D, L, Own, Entered, apart}
 use Rattle.records.proofs.ReaderMethods.{Ends, method-ends, method-meets}
