@@ -1,4 +1,4 @@
--- The claims of specs/Demands.antt on the tree pair and the length of a record, proved. Assumes nothing.
+-- The calls of record to tree pair and record to length: what they refuse and what they give. Assumes nothing.
 use mathlib.Core.Path.{_≡_, refl, sym, ap, ap₂, _∙_, subst}
 use mathlib.Core.List.{List}
 use mathlib.Core.Logic.{_⊎_, inl, inr, _↔_}
@@ -11,8 +11,7 @@ use borrow.Author.Tests.{lt-ltb, le-ltb}
 use Rattle.lists.proofs.Writes.{sets-front, sets-beyond}
 use Rattle.group.specs.Forms.{Form}
 use Rattle.refusals.specs.Outcomes.{Outcome, accepted, refused, valued}
-use Rattle.refusals.proofs.Outcomes.{accepted-same, accepted-refused, refused-number, refused-place}
-use Rattle.refusals.proofs.Outcomes.{valued-refused, valued-accepted, accepted-when}
+use Rattle.refusals.proofs.Outcomes.{accepted-same, accepted-refused, refused-number, refused-place, valued-accepted}
 use Rattle.records.specs.Reading.{decode}
 use Rattle.records.specs.Faults.{Bytes}
 use Rattle.records.proofs.Accepted.{decode-form}
@@ -30,9 +29,10 @@ use Rattle.pairs.specs.Contracts.{treePairOf, wordLengthOf, pairedIn, treeAfter
 use Rattle.pairs.specs.declared.TreePair.{TreePair}
 use Rattle.pairs.specs.declared.WordLength.{WordLength}
 use Rattle.pairs.proofs.Tables.{carets-most}
-use Rattle.claims.specs.Refusals.{RecordRefusal, ShortShape, PairRefusal, unread, shortShape}
-use Rattle.claims.specs.Demands.{RefusalsOfTreePairs, RefusalsOfLengths, PairOfRecord, RecordGivesPair}
-use Rattle.claims.specs.Demands.{RecordGivesLength}
+use Rattle.claims.specs.Refusals.{ShortShape, PairRefusal, unread, shortShape}
+use Rattle.claims.specs.Answers.{IsRefused, Refuses, Measured}
+use Rattle.claims.specs.Given.{PairOfRecord, LengthOfRecord}
+use Rattle.claims.proofs.Answers.{is-refused, refuses-when}
 use Rattle.claims.proofs.Refusals.{decoded↔refusal}
 
 -- What is found of a record and two buffers, in each of its cases.
@@ -96,33 +96,33 @@ module _ (s : List ℕ) (m p : ℕ) where
       go (no k) (inl x) = absurd (omega (arith, size))
       go (no k) (inr x) = short-plus (h .form) (h .reads) (omega arith) (omega (arith, size))
 
-module _ {s m p m′ p′ : List ℕ} {r : TreePair} (h : Paired s m p m′ p′ r) where
-  pair-refused : (n q : ℕ) → treePairOf r ≡ refused n q → pairedIn s (length m) (length p) ≡ refused n q
-  pair-refused n q e = valued-refused caretsOf (pairedIn s (length m) (length p)) n q (sym (h .result) ∙ e)
-
-  refused-pair : (n q : ℕ) → pairedIn s (length m) (length p) ≡ refused n q → treePairOf r ≡ refused n q
-  refused-pair n q e = h .result ∙ ap (valued caretsOf) e
-
-  pair-just-when : Bytes s → (n q : ℕ) → (treePairOf r ≡ refused n q) ↔ PairRefusal s (length m) (length p) n q
-  pair-just-when bytes n q = (λ e. from (find s (length m) (length p)) (pair-refused n q e), to)
+  -- A refusal of a record and two buffers, by its condition.
+  paired↔refusal : Bytes s → (n q : ℕ) → (pairedIn s m p ≡ refused n q) ↔ PairRefusal s m p n q
+  paired↔refusal bytes n q = (from find, to)
     where
-      from : Found s (length m) (length p) → pairedIn s (length m) (length p) ≡ refused n q
-          → PairRefusal s (length m) (length p) n q
+      from : Found s m p → pairedIn s m p ≡ refused n q → PairRefusal s m p n q
       from (unreadable k i e o) x = unread (decoded↔refusal s bytes n q .0 (e ∙ sym o ∙ x))
       from (tooShort short o) x = shortShape (refused-number (sym x ∙ o)) (refused-place (sym x ∙ o)) short
       from (found f e hm hp o) x = absurd (accepted-refused (sym o ∙ x))
 
-      to : PairRefusal s (length m) (length p) n q → treePairOf r ≡ refused n q
-      to (unread c) = refused-pair n q (rw (decoded↔refusal s bytes n q .1 c) refl)
-      to (shortShape en eq short) =
-          refused-pair n q (short-refused s (length m) (length p) short ∙ sym (ap₂ refused en eq))
+      to : PairRefusal s m p n q → pairedIn s m p ≡ refused n q
+      to (unread c) = rw (decoded↔refusal s bytes n q .1 c) refl
+      to (shortShape en eq short) = short-refused short ∙ sym (ap₂ refused en eq)
 
-  pair-kept : (n q : ℕ) → treePairOf r ≡ refused n q → (m′ ≡ m) × (p′ ≡ p)
-  pair-kept n q e =
-      let o = pair-refused n q e in (
-        h .t-minus ∙ ap (λ (x : Outcome Form). treeAfter minusTree x m) o,
-        h .t-plus ∙ ap (λ (x : Outcome Form). treeAfter plusTree x p) o,
-      )
+module _ {s m p m′ p′ : List ℕ} {r : TreePair} (h : Paired s m p m′ p′ r) where
+  -- Refused as what is found, and then both buffers stay.
+  pub pair-refused : (Bytes s → Refuses (treePairOf r) (PairRefusal s (length m) (length p)))
+      × (IsRefused (treePairOf r) → (m′ ≡ m) × (p′ ≡ p))
+  pair-refused = (
+    (λ bytes.
+        refuses-when caretsOf (pairedIn s (length m) (length p)) (h .result) (PairRefusal s (length m) (length p))
+        (paired↔refusal s (length m) (length p) bytes)),
+    (λ x.
+        let o = is-refused caretsOf (pairedIn s (length m) (length p)) (h .result) x .2 in (
+          h .t-minus ∙ ap (λ (y : Outcome Form). treeAfter minusTree y m) o,
+          h .t-plus ∙ ap (λ (y : Outcome Form). treeAfter plusTree y p) o,
+        )),
+  )
 
   -- The buffers of a record that is accepted.
   module _ (f : Form) (e : decode s ≡ accepted f) (o : pairedIn s (length m) (length p) ≡ accepted f) where
@@ -162,11 +162,12 @@ module _ {s m p m′ p′ : List ℕ} {r : TreePair} (h : Paired s m p m′ p′
           no-redundant = reduced-pair f (kept .0 .reduced);
         }
 
-  pair-gives : (n : ℕ) → treePairOf r ≡ accepted n → PairOfRecord s m p m′ p′ n
+  -- An accepted call.
+  pub pair-gives : (n : ℕ) → treePairOf r ≡ accepted n → PairOfRecord s m p m′ p′ n
   pair-gives n a = go (find s (length m) (length p))
     where
       never : (k q : ℕ) → pairedIn s (length m) (length p) ≡ refused k q → ⊥
-      never k q o = accepted-refused (sym a ∙ refused-pair k q o)
+      never k q o = accepted-refused (sym a ∙ h .result ∙ ap (valued caretsOf) o)
 
       go : Found s (length m) (length p) → PairOfRecord s m p m′ p′ n
       go (unreadable k q e o) = absurd (never k q o)
@@ -175,32 +176,10 @@ module _ {s m p m′ p′ : List ℕ} {r : TreePair} (h : Paired s m p m′ p′
           let same : caretsOf f ≡ n = accepted-same (sym (h .result ∙ ap (valued caretsOf) o) ∙ a) in
           subst (λ (k : ℕ). PairOfRecord s m p m′ p′ k) same (of-record f e o hm hp)
 
-pub refusals-of-tree-pairs : RefusalsOfTreePairs
-refusals-of-tree-pairs = record {
-  refused-just-when = λ s m p m′ p′ r bytes h. pair-just-when h bytes;
-  accepted-just-when = λ s m p m′ p′ r bytes h.
-      accepted-when (treePairOf r) (PairRefusal s (length m) (length p)) (pair-just-when h bytes);
-  nothing-altered = λ s m p m′ p′ r h. pair-kept h;
-}
-
-pub record-gives-pair : RecordGivesPair
-record-gives-pair s m p m′ p′ r n h = pair-gives h n
-
-length-just-when : (s : List ℕ) (r : WordLength) → Bytes s → wordLengthOf r ≡ valued formLength (decode s) → (n p : ℕ)
-    → (wordLengthOf r ≡ refused n p) ↔ RecordRefusal s n p
-length-just-when s r bytes h n p = (
-  (λ e. decoded↔refusal s bytes n p .0 (valued-refused formLength (decode s) n p (sym h ∙ e))),
-  (λ c. h ∙ ap (valued formLength) (decoded↔refusal s bytes n p .1 c)),
-)
-
-pub refusals-of-lengths : RefusalsOfLengths
-refusals-of-lengths = record {
-  refused-just-when = length-just-when;
-  accepted-just-when = λ s r bytes h. accepted-when (wordLengthOf r) (RecordRefusal s) (length-just-when s r bytes h);
-}
-
-pub record-gives-length : RecordGivesLength
-record-gives-length s r n h a =
+-- The length is that of the kinds of the pair's carets.
+pub length-gives : (s : List ℕ) (r : WordLength) (n : ℕ) → Measured s r → wordLengthOf r ≡ accepted n
+    → LengthOfRecord s n
+length-gives s r n h a =
     let x = valued-accepted formLength (decode s) n (sym h ∙ a) in
     let f : Form = x .0 in
     record {

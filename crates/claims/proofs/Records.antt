@@ -33,7 +33,7 @@ use Rattle.words.specs.Recording.{Memory, memory, judgedWith, recordOfWord, rec
 use Rattle.words.specs.Recording.{WordWritten}
 use Rattle.words.proofs.Judged.{accepted-record}
 use Rattle.words.proofs.Compared.{front-record}
-use Rattle.claims.specs.Demands.{KeptMap}
+use Rattle.claims.specs.Given.{RecordOfWord}
 use Rattle.claims.proofs.Refusals.{Judged, refuses, accepts, judge-word, judged-accepted}
 
 -- Nothing is altered where the outcome is a refusal.
@@ -107,13 +107,16 @@ call-front {u} {m} {m′} {r} {n} {w} h e b = go (judge-word u m)
         let front = front-record u m m′ n (record { letters = w; judged-so = so }) written in
         record { judged-so = so; count = front .0; front = front .1 }
 
--- Its record is read as the form of its word.
+-- The record of a word within the limit is read as the form of the word.
+pub read-record : (w : Word) → length w ≤ limit → decode (recordOfWord w) ≡ accepted (formOf w)
+read-record w short = decode-encode (formOf w) (form-canonical w) (form-within w short)
+
+-- So is the record that an accepted call writes.
 pub recorded-form : {u : List ℕ} {m m′ : Memory} {r : Written} {n : ℕ} (w : Word) → Recorded u m m′ r
     → writtenOf r ≡ accepted n → u ≡ bytesOf w → decode (take n (m′ .buffer)) ≡ accepted (formOf w)
 recorded-form {u} {m} {m′} {r} {n} w h e b =
     let call = call-front {w = w} h e b in
-    ap decode (call .front)
-    ∙ decode-encode (formOf w) (form-canonical w) (form-within w (judged-within u m w (call .judged-so)))
+    ap decode (call .front) ∙ read-record w (judged-within u m w (call .judged-so))
 
 -- Its record lies inside the buffer.
 record-fits : (u : List ℕ) (m : Memory) (w : Word) → judgedWith u m ≡ accepted w
@@ -137,7 +140,7 @@ table-beyond w s t t′ e =
     (values-length (length w + 1) (exponent s (formOf w)))
 
 pub call-keeps-map : {u : List ℕ} {m m′ : Memory} {r : Written} {n : ℕ} {w : Word} → Recorded u m m′ r
-    → writtenOf r ≡ accepted n → u ≡ bytesOf w → KeptMap m m′ n w
+    → writtenOf r ≡ accepted n → u ≡ bytesOf w → RecordOfWord m m′ n w
 call-keeps-map {u} {m} {m′} {r} {n} {w} h e b =
     let call = call-front h e b in
     let so = call .judged-so in

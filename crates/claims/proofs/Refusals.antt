@@ -26,6 +26,7 @@ use Rattle.words.specs.Recording.{Memory, judgedWith}
 use Rattle.claims.specs.Refusals.{Long, Unlettered, ShortTable, ShortBuffer, NoWordRefusal, WordRefusal}
 use Rattle.claims.specs.Refusals.{long, unlettered, shortTable, shortBuffer}
 use Rattle.claims.specs.Refusals.{RecordRefusal, unframed, faulty, unreduced}
+use Rattle.claims.specs.Answers.{None}
 
 -- The buffer's test of a word.
 abbrev roomFor : List ℕ → Memory → Word → Outcome Word
@@ -159,6 +160,30 @@ judged↔refusal u m n p = (from (judge-word u m), refusal-judged u m n p)
         subst (λ (i : ℕ). WordRefusal u m i p) (refused-number (sym e ∙ h))
         (subst (λ (i : ℕ). WordRefusal u m k i) (refused-place (sym e ∙ h)) c)
     from (accepts w r c e) h = absurd (accepted-refused (sym e ∙ h))
+
+-- A word is judged good just where no refusal's condition holds, and that is that none of the four holds.
+pub accepted-none : (u : List ℕ) (m : Memory) (w : Word) → judgedWith u m ≡ accepted w → None (WordRefusal u m)
+accepted-none u m w e n p c = accepted-refused (sym e ∙ judged↔refusal u m n p .1 c)
+
+pub none-accepted : (u : List ℕ) (m : Memory) → None (WordRefusal u m) → (w : Word) × (judgedWith u m ≡ accepted w)
+none-accepted u m none = go (judge-word u m)
+  where
+    go : Judged u m → (w : Word) × (judgedWith u m ≡ accepted w)
+    go (refuses n p c e) = absurd (none n p c)
+    go (accepts w b c e) = (w, e)
+
+pub no-refusal↔none : (u : List ℕ) (m : Memory) → NoWordRefusal u m ↔ None (WordRefusal u m)
+no-refusal↔none u m = (to, from (judge-word u m))
+  where
+    to : NoWordRefusal u m → None (WordRefusal u m)
+    to c n p (long en ep l) = c .not-long l
+    to c n p (unlettered en l f) = c .lettered (p, f)
+    to c n p (shortTable en ep l f t) = c .long-tables t
+    to c n p (shortBuffer en ep l f t b) = c .long-buffer b
+
+    from : Judged u m → None (WordRefusal u m) → NoWordRefusal u m
+    from (refuses n p c e) none = absurd (none n p c)
+    from (accepts w b c e) none = c
 
 -- The word of an accepted call.
 pub judged-accepted : (u : List ℕ) (m : Memory) (w : Word) → NoWordRefusal u m → u ≡ bytesOf w

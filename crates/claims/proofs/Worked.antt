@@ -1,25 +1,35 @@
--- The rows of specs/Worked.antt, by computation. That the unreduced form has the map of b is one free reduction of its
--- letters. Assumes nothing.
-use mathlib.Core.Path.{_≡_, refl, ap, _∙_}
+-- The rows of specs/Worked.antt, by computation; a record of a word is read as the word's form. That the unreduced form
+-- has the map of b is one free reduction of its letters. Assumes nothing.
+use mathlib.Core.Path.{_≡_, refl, sym, ap, _∙_, subst}
 use mathlib.Core.List.{[], _∷_}
 use Prim.Native.Nat.{ℕ, zero, suc, _<_, _≤_}
 use native.Mathlib.Omega.{arith}
-use Rattle.group.specs.Letters.{'b}
+use lib.ListN.{length}
+use Rattle.group.specs.Letters.{'b, Word}
+use Rattle.group.specs.Maps.{SameMap}
 use Rattle.group.specs.Forms.{Side, bSide, aSide, Form, exponent, letters}
 use Rattle.group.specs.Limits.{limit}
 use Rattle.group.specs.Reducing.{Applies}
+use Rattle.group.specs.Products.{formOf}
 use Rattle.group.proofs.Congruence.{≈→joined}
 use Rattle.group.proofs.Inverses.{eight-pairs}
 use Rattle.group.proofs.FreeReduction.{word, free}
 use Rattle.group.proofs.Reduced.{form-reduced}
 use Rattle.group.proofs.Theorems.{joined-map}
 use Rattle.group.proofs.NoStep.{reduced-no-step}
-use Rattle.refusals.specs.Outcomes.{refused}
+use Rattle.refusals.specs.Outcomes.{Outcome, accepted, refused, valued, then}
 use Rattle.records.specs.Reading.{firstBreak, reducedForm, decode}
 use Rattle.records.specs.Faults.{formRead}
 use Rattle.records.proofs.ReadBack.{form-encode}
-use Rattle.claims.specs.Worked.{unreduced, unreducedRecord, Worked}
+use Rattle.trees.specs.Pairs.{caretsOf}
+use Rattle.lengths.specs.Weights.{formLength}
+use Rattle.spelling.specs.Spelling.{spelling}
+use Rattle.spelling.specs.Contracts.{wordIn}
+use Rattle.words.specs.Recording.{recordOfWord}
+use Rattle.claims.specs.Worked.{unreduced, unreducedRecord, deadEnd, deadEndRecord, Measures, IsSpelled, Worked}
+use Rattle.claims.proofs.Records.{read-record}
 
+-- The clause is broken at index 0.
 applies-0 : Applies 0 unreduced
 applies-0 = record { here = occurs; next = absent }
   where
@@ -50,42 +60,69 @@ record-unreduced =
     let entries : decode unreducedRecord ≡ reducedForm unreducedRecord = refl in
     entries ∙ ap (λ (f : Form). firstBreak f 0 (suc limit)) record-unreduced-form ∙ first-unreduced
 
+-- The letters of that form are b, freely reduced.
+unreduced-map : SameMap (letters unreduced) ('b ∷ [])
+unreduced-map =
+    joined-map (letters unreduced) ('b ∷ []) (≈→joined (free eight-pairs (letters unreduced) ('b ∷ []) refl))
+
+-- The record of a word is read; N and the length are computed from the word's form.
+measured : (w : Word) (n l : ℕ) → length w ≤ limit → caretsOf (formOf w) ≡ n → formLength (formOf w) ≡ l
+    → Measures (recordOfWord w) n l
+measured w n l short en el =
+    let read = read-record w short in
+    record {
+      number = ap (valued caretsOf) read ∙ ap accepted en;
+      measure = ap (valued formLength) read ∙ ap accepted el;
+    }
+
+-- The dead end is the form of its spelling.
+read-dead-end : decode deadEndRecord ≡ accepted deadEnd
+read-dead-end = read-record (word "aabAAAAAbaaaB") (omega arith)
+
+spelled-dead-end : IsSpelled deadEndRecord "aabAAAAAbaaaB"
+spelled-dead-end = record {
+  word = spelling deadEnd;
+  text = refl;
+  spelled = ap (λ (o : Outcome Form). then o (λ f. wordIn 13 (spelling f))) read-dead-end;
+}
+
 pub worked : Worked
 worked =
     record {
-      row-empty = refl;
-      row-aBbA = refl;
-      row-aBAbabAABa = refl;
-      row-b = refl;
-      row-Aba = refl;
-      row-BAbab = refl;
-      row-AAbaa = refl;
-      row-ba = refl;
-      row-ab = refl;
       record-empty = refl;
       record-aBbA = refl;
       record-aBAbabAABa = refl;
       record-b = refl;
+      pair-b = measured (word "b") 3 1 (omega arith) refl refl;
       record-Aba = refl;
+      pair-Aba = measured (word "Aba") 4 3 (omega arith) refl refl;
       record-BAbab = refl;
       record-AAbaa = refl;
       record-ba = refl;
       record-ab = refl;
-      record-unreduced = record-unreduced;
-      record-unreduced-form = record-unreduced-form;
-      row-unreduced = λ r. reduced-no-step unreduced r 0 applies-0;
-      row-unreduced-place = applies-0;
-      row-unreduced-map =
-          joined-map (letters unreduced) ('b ∷ []) (≈→joined (free eight-pairs (letters unreduced) ('b ∷ []) refl));
-      row-dead-end = form-reduced (word "aabAAAAAbaaaB");
-      row-dead-end-word = refl;
-      record-dead-end = refl;
-      pair-b = (refl, refl);
-      pair-Aba = (refl, refl);
-      pair-dead-end = (refl, refl);
-      spelled-dead-end = refl;
-      minus-dead-end = refl;
-      plus-dead-end = refl;
+      refused-unreduced = record-unreduced;
+      map-unreduced = subst (λ (f : Form). SameMap (letters f) ('b ∷ [])) (sym record-unreduced-form) unreduced-map;
+      read-dead-end = read-dead-end;
+      pair-dead-end = measured (word "aabAAAAAbaaaB") 8 11 (omega arith) refl refl;
+      spelled-dead-end = spelled-dead-end;
+      form-empty = refl;
+      form-aBbA = refl;
+      form-aBAbabAABa = refl;
+      form-b = refl;
+      form-Aba = refl;
+      form-BAbab = refl;
+      form-AAbaa = refl;
+      form-ba = refl;
+      form-ab = refl;
+      form-unreduced = record-unreduced-form;
+      unreduced-place = applies-0;
+      not-reduced = λ r. reduced-no-step unreduced r 0 applies-0;
+      dead-end-reduced = form-reduced (word "aabAAAAAbaaaB");
+      dead-end-word = refl;
+      dead-end-record = refl;
+      dead-end-spelling = refl;
+      dead-end-minus = refl;
+      dead-end-plus = refl;
       relator1-printed = refl;
       relator2-printed = refl;
     }

@@ -1,8 +1,11 @@
 -- The demands of the papers as claims: start with Demands.
 pub mod Refusals
+pub mod Answers
+pub mod Given
 pub mod Demands
 pub mod Forms
 pub mod Trees
 pub mod Spellings
+pub mod Receipts
 pub mod Sentences
 pub mod Worked

@@ -1,6 +1,6 @@
 -- What the papers say of letters, maps, generators and reducing beside the demands, and what later calls use of forms,
 -- a claim each; proofs/Sentences.antt has the proofs, under the same names in small letters with hyphens. Names beside
--- those that Demands.antt explains, with the file of group/specs that defines them:
+-- those that Forms.antt explains, with the file of group/specs that defines them:
 --     inverseLetter, inverse     the inverse of a letter, of a word                               Letters
 --     JoinedBy S u v             a chain whose steps use the strings of S joins u to v            Chains
 --     below1 p, end1             the point below 1 with the digits p; the end 1                   Points

@@ -17,7 +17,7 @@ pub enum Length {
     Unfit,
 }
 
-// The length of the smallest tree pair with the exponents of two tables of MAX_CARETS entries each.
+// The length of the smallest tree pair with the exponents of two tables of at most MAX_CARETS entries each.
 pub fn pair_length(b: &[u16], a: &[u16]) -> Length
     ensures { λ r. ⌜ lengthOf r ≡ tableLength (now (b .entry)) (now (a .entry)) ⌝ }
 {

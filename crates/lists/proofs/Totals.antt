@@ -4,7 +4,7 @@ use mathlib.Core.Path.{_≡_, refl, sym, _∙_}
 use mathlib.Core.List.{List, [], _∷_, _++_}
 use Prim.Native.Nat.{ℕ, zero, suc, _+_, _≤_}
 use native.Mathlib.Omega.{arith}
-use lib.ListN.{getD, drop}
+use lib.ListN.{getD, drop, replicate}
 use lib.Seq.{getD-drop}
 use Rattle.lists.specs.Entries.{total, SameEntries}
 
@@ -29,6 +29,12 @@ same-zero = same-none [] (λ i. refl)
 
 pub same-zeros : SameEntries (0 ∷ []) (0 ∷ 0 ∷ [])
 same-zeros = same-cons 0 0 [] (0 ∷ []) refl (λ i. sym (same-zero i))
+
+-- Any number of zeros.
+pub same-replicate : (n : ℕ) → SameEntries (replicate n 0) []
+same-replicate zero i = refl
+same-replicate (suc n) zero = refl
+same-replicate (suc n) (suc i) = same-replicate n i
 
 -- The sum of two lists, one behind the other.
 pub total-append : (xs ys : List ℕ) → total (xs ++ ys) ≡ total xs + total ys

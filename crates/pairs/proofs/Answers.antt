@@ -3,12 +3,13 @@
 use mathlib.Core.Path.{_≡_, refl, sym, ap, ap₂, _∙_, subst}
 use mathlib.Core.Bool.{Bool, true, false}
 use mathlib.Core.List.{List}
-use Prim.Native.Nat.{ℕ}
+use Prim.Native.Nat.{ℕ, suc}
 use native.Mathlib.Omega.{arith}
 use lib.ListN.{length, replicate}
 use lib.Dec.{ltb}
 use lib.Seq.{sets}
 use Rattle.group.specs.Forms.{bSide, aSide, Form}
+use Rattle.group.specs.Limits.{limit}
 use Rattle.refusals.specs.Outcomes.{Outcome, accepted, refused, then, valued, refusal, refusalIn}
 use Rattle.refusals.specs.declared.Refusal.{Refusal}
 use Rattle.refusals.specs.declared.Verdict.{Verdict}
@@ -19,7 +20,7 @@ use Rattle.records.specs.Contracts.{Decoded}
 use Rattle.records.proofs.ClearedTables.{Cleared, cleared, Read, read-refused, read-accepted}
 use Rattle.trees.specs.Trees.{Tree}
 use Rattle.trees.specs.Building.{treeOf}
-use Rattle.trees.specs.Pairs.{caretsOf, maxCarets, minusTree, plusTree}
+use Rattle.trees.specs.Pairs.{caretsOf, minusTree, plusTree}
 use Rattle.trees.specs.Shapes.{shape, shapeSize}
 use Rattle.trees.specs.Writing.{pairingOf, tableCarets, pairCarets, shapeAfter, WrotePair}
 use Rattle.trees.specs.declared.Pairing.{Pairing}
@@ -36,8 +37,8 @@ use Rattle.pairs.specs.Contracts.{treePairOf, wordLengthOf, pairedIn, Pa
 use Rattle.pairs.proofs.Tables.{tree-of-table, tables-fit}
 
 -- The calls' own tables.
-pub own-cleared : Cleared maxCarets (replicate maxCarets 0)
-own-cleared = cleared maxCarets (omega arith)
+pub own-cleared : Cleared (suc limit) (replicate (suc limit) 0)
+own-cleared = cleared (suc limit) (omega arith)
 
 -- An answer of the pair writer that is not unfit is passed on.
 pairing-passed : (x : Pairing) (o : Outcome ℕ) → pairingOf x ≡ o → (o ≡ refused 0 0 → ⊥) → treePairOf (pairingIn x) ≡ o
@@ -46,7 +47,7 @@ pairing-passed (Written.Refused q) o h fit = h
 pairing-passed Written.Unfit o h fit = absurd (fit (sym h))
 
 -- The tables are fit, and their trees are those of the form.
-module _ {s z b a : List ℕ} {f : Form} (c : Cleared maxCarets z) (r : Read s z b a f) where
+module _ {s z b a : List ℕ} {f : Form} (c : Cleared (suc limit) z) (r : Read s z b a f) where
   fit-tables : tableCarets b a ≡ accepted (caretsOf f)
   fit-tables =
       ap₂ tableCarets (r .b-holds) (r .a-holds) ∙ tables-fit f (r .within) c (r .canonical)
@@ -103,7 +104,7 @@ module _ {s z b a : List ℕ} {f : Form} (c : Cleared maxCarets z) (r : Read s z
         go false false ek el = pair-long (rw (fit-tables, ek, el) refl) (rw (r .decodes, ek, el) refl)
 
 -- A refusal of the reader is passed on, and nothing was written.
-module _ {s z b a : List ℕ} {v : Verdict} {q : Refusal} (c : Cleared maxCarets z) (d : Decoded s z z b a v)
+module _ {s z b a : List ℕ} {v : Verdict} {q : Refusal} (c : Cleared (suc limit) z) (d : Decoded s z z b a v)
     (e : v ≡ Refused q) (r : Refusal) (is : r ≡ refusalIn v) where
   refuses : decode s ≡ refusal r
   refuses = read-refused c d e ∙ sym (ap refusal is)
@@ -115,7 +116,7 @@ module _ {s z b a : List ℕ} {v : Verdict} {q : Refusal} (c : Cleared maxCarets
   length-refused = rw refuses refl
 
 -- The tables of a record that is accepted give its tree pair and its length.
-module _ {s z b a : List ℕ} {v : Verdict} (c : Cleared maxCarets z) (d : Decoded s z z b a v) (e : v ≡ Accepted) where
+module _ {s z b a : List ℕ} {v : Verdict} (c : Cleared (suc limit) z) (d : Decoded s z z b a v) (e : v ≡ Accepted) where
   pub pair-answer : {m p m′ p′ : List ℕ} (x : Pairing) (r : TreePair) → WrotePair b a m p m′ p′ x → r ≡ pairingIn x
       → Paired s m p m′ p′ r
   pair-answer {m} {p} {m′} {p′} x r w is =

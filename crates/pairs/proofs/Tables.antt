@@ -4,7 +4,8 @@ use mathlib.Core.Path.{_≡_, sym, ap, ap₂, _∙_}
 use mathlib.Core.List.{List}
 use Prim.Native.Nat.{ℕ, suc, _≤_, max}
 use native.Mathlib.Omega.{arith}
-use borrow.Author.Tests.{le-ltb, eq-eqb}
+use lib.ListN.{length}
+use borrow.Author.Tests.{le-ltb}
 use Rattle.lists.specs.Entries.{SameEntries}
 use Rattle.group.specs.Forms.{Side, bSide, aSide, Form, exponents}
 use Rattle.group.specs.Limits.{limit}
@@ -27,7 +28,7 @@ carets-most f c w =
     carets-limit limit f (trimmed-levels f (suc limit) (c .trimmed) (λ s i h. within-behind f w s i (omega arith)))
     (w .sum)
 
-module _ (f : Form) (w : Within f) {z : List ℕ} (c : Cleared maxCarets z) where
+module _ (f : Form) (w : Within f) {z : List ℕ} (c : Cleared (suc limit) z) where
   table-same : (s : Side) → SameEntries (tableOf s f z) (exponents s f)
   table-same s i = table-at f w c s i ∙ sym (exponents-at s f i)
 
@@ -40,10 +41,12 @@ module _ (f : Form) (w : Within f) {z : List ℕ} (c : Cleared maxCarets z) wher
   pub tree-of-table : (s : Side) → treeOf (caretsOf f) (tableOf s f z) ≡ treeOf (caretsOf f) (exponents s f)
   tree-of-table s = tree-same (caretsOf f) (tableOf s f z) (exponents s f) (table-same s)
 
+  entries : (s : Side) → length (tableOf s f z) ≤ maxCarets
+  entries s = omega (arith, table-length f w c s)
+
   -- The tables are fit.
   pub tables-fit : Canonical f → tableCarets (tableOf bSide f z) (tableOf aSide f z) ≡ accepted (caretsOf f)
   tables-fit d =
       let few : caretsOfSides (tableOf bSide f z) (tableOf aSide f z) ≤ maxCarets =
       omega (arith, same-carets, carets-most f d w) in
-      simp (eq-eqb _ _ (table-length f w c bSide), eq-eqb _ _ (table-length f w c aSide), le-ltb _ _ few)
-      (ap accepted same-carets)
+      simp (le-ltb _ _ (entries bSide), le-ltb _ _ (entries aSide), le-ltb _ _ few) (ap accepted same-carets)

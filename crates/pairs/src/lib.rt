@@ -5,9 +5,9 @@ ghost use Rattle.records.specs.Reading.{decode};
 ghost use Rattle.lengths.specs.Weights.{formLength};
 ghost use Rattle.pairs.specs.Contracts.{pairingIn, lengthIn, wordLengthOf, Paired};
 use lengths::Length;
+use refusals::LIMIT;
 use refusals::Refusal;
 use refusals::Verdict;
-use trees::MAX_CARETS;
 use trees::Pairing;
 
 // The number of carets of each tree of the pair, or a refusal.
@@ -48,8 +48,8 @@ pub fn record_to_tree_pair(record: &[u8], t_minus: &mut [u8], t_plus: &mut [u8])
     ensures { λ r. ⌜ Paired (now («record» .entry)) (now («t_minus» .entry)) (now («t_plus» .entry))
         (now («t_minus» .exit)) (now («t_plus» .exit)) r ⌝ }
 {
-    let mut b = [0u16; MAX_CARETS];
-    let mut a = [0u16; MAX_CARETS];
+    let mut b = [0u16; LIMIT + 1];
+    let mut a = [0u16; LIMIT + 1];
     let verdict = records::record_to_tables(record, &mut b, &mut a);
     let Verdict::Accepted = verdict else {
         return TreePair::Refused(refusals::refusal_of(verdict));
@@ -61,8 +61,8 @@ pub fn record_to_tree_pair(record: &[u8], t_minus: &mut [u8], t_plus: &mut [u8])
 pub fn record_to_length(record: &[u8]) -> WordLength
     ensures { λ r. ⌜ wordLengthOf r ≡ valued formLength (decode (now («record» .entry))) ⌝ }
 {
-    let mut b = [0u16; MAX_CARETS];
-    let mut a = [0u16; MAX_CARETS];
+    let mut b = [0u16; LIMIT + 1];
+    let mut a = [0u16; LIMIT + 1];
     let verdict = records::record_to_tables(record, &mut b, &mut a);
     let Verdict::Accepted = verdict else {
         return WordLength::Refused(refusals::refusal_of(verdict));

@@ -2,12 +2,13 @@
 use mathlib.Core.Path.{_≡_, refl, sym, ap, _∙_}
 use mathlib.Core.Bool.{Bool, true, false, cond}
 use mathlib.Core.List.{List}
-use Prim.Native.Nat.{ℕ, zero, suc, _<_, _≤_}
+use Prim.Native.Nat.{ℕ, suc, _<_, _≤_}
 use native.Mathlib.Decide.{decLe}
 use native.Mathlib.Omega.{arith}
 use lib.ListN.{getD, replicate}
 use Rattle.lists.specs.Tables.{filled}
 use Rattle.lists.proofs.Tables.{filled-at, filled-beyond}
+use Rattle.lists.proofs.Totals.{same-replicate}
 use Rattle.group.specs.Forms.{Side, bSide, aSide, Form, exponent}
 use Rattle.group.specs.Limits.{limit}
 use Rattle.refusals.specs.Outcomes.{Outcome, accepted, refused, then, checked, verdictOf}
@@ -25,11 +26,6 @@ use Rattle.records.proofs.Levels.{upTo-below, upTo-behind}
 abbrev zeros : List ℕ
 zeros = replicate (suc (suc limit)) 0
 
-zeros-at : (n i : ℕ) → getD (replicate {A = ℕ} n 0) i 0 ≡ 0
-zeros-at zero i = refl
-zeros-at (suc n) zero = refl
-zeros-at (suc n) (suc i) = zeros-at n i
-
 -- The powers that are read give the form's exponents.
 pub form-below : (s : List ℕ) (d : Side) (i : ℕ) → i < suc limit → exponentAt (sidePowers d s) i ≡ exponent d (formRead
     s) i
@@ -45,7 +41,7 @@ shown-side s d i = go (decLe (suc i) (suc limit))
     go (yes lt) = filled-at (suc limit) (exponentAt (sidePowers d s)) zeros i lt ∙ form-below s d i lt
     go (no ge) =
         filled-beyond (suc limit) (exponentAt (sidePowers d s)) zeros i (omega (arith, ge))
-        ∙ zeros-at (suc (suc limit)) i
+        ∙ same-replicate (suc (suc limit)) i
         ∙ sym (upTo-behind (suc limit) (exponentAt (bPowers s)) (exponentAt (aPowers s)) d i (omega (arith, ge)))
 
 -- The clause, tested on the exponents of a record's powers.

@@ -9,6 +9,7 @@ use lib.ListN.{length, getD, replicate, length-replicate}
 use borrow.Author.Tests.{le-ltb}
 use Rattle.lists.specs.Tables.{filled}
 use Rattle.lists.proofs.Tables.{filled-length, filled-at, filled-beyond}
+use Rattle.lists.proofs.Totals.{same-replicate}
 use Rattle.group.specs.Forms.{Side, bSide, aSide, Form, exponent}
 use Rattle.group.specs.Limits.{limit}
 use Rattle.group.proofs.Reduced.{Canonical}
@@ -28,13 +29,8 @@ pub record Cleared (n : ℕ) (z : List ℕ) : Type 0 where
   pub room : suc limit ≤ n
   pub zeros : (i : ℕ) → getD z i 0 ≡ 0
 
-zeros-at : (n i : ℕ) → _≡_ {A = ℕ} (getD (replicate n 0) i 0) 0
-zeros-at zero i = refl
-zeros-at (suc n) zero = refl
-zeros-at (suc n) (suc i) = zeros-at n i
-
 pub cleared : (n : ℕ) → suc limit ≤ n → Cleared n (replicate n 0)
-cleared n h = record { size = length-replicate {A = ℕ} n 0; room = h; zeros = zeros-at n }
+cleared n h = record { size = length-replicate {A = ℕ} n 0; room = h; zeros = same-replicate n }
 
 -- A table filled with the exponents of a side.
 abbrev pub tableOf : Side → Form → List ℕ → List ℕ

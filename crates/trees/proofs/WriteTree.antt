@@ -1,16 +1,20 @@
--- The whole tree, written from its first leaf: the exponents of the n first leaves decide it. Assumes nothing.
+-- The whole tree, written from its first leaf: the exponents of the n first leaves decide it. A table with fewer
+-- entries is copied to the front of zeros, which has the same tree. Assumes nothing.
 use mathlib.Core.Path.{_≡_, refl, sym, ap, _∙_}
 use mathlib.Core.List.{List}
 use Prim.Native.Nat.{ℕ, zero, suc, _<_, _≤_}
 use native.Mathlib.Omega.{arith}
 use native.Mathlib.Decide.{decLt}
-use lib.ListN.{length, take, getD, length-take, List·getD-eq-default}
+use lib.ListN.{length, take, getD, replicate, length-take, length-replicate, List·getD-eq-default}
 use lib.Seq.{getD-take}
 use Rattle.lists.specs.Entries.{SameEntries}
+use Rattle.lists.proofs.Tables.{filled-length, filled-at, filled-beyond}
+use Rattle.lists.proofs.Totals.{same-replicate}
 use Rattle.trees.specs.Building.{needed, treeOf}
+use Rattle.trees.specs.Pairs.{maxCarets}
 use Rattle.trees.specs.Shapes.{shape, shapeSize}
 use Rattle.trees.specs.Writing.{nodesFrom}
-use Rattle.trees.specs.Steps.{Room, Fits}
+use Rattle.trees.specs.Steps.{Room, Fits, copiedFront}
 use Rattle.trees.proofs.Rows.{tree-same}
 use Rattle.trees.proofs.Needed.{needed-holds, needed-same}
 use Rattle.trees.proofs.Built.{tree-carets}
@@ -18,9 +22,9 @@ use Rattle.trees.proofs.Shapes.{shape-length}
 use Rattle.trees.proofs.Nodes.{nodes-shape}
 
 -- The tree with n carets, from its first leaf: the exponents of the n first leaves decide it.
-module _ {e : List ℕ} {n : ℕ} {buffer : List ℕ} (f : Fits e n buffer) where
+module _ {e : List ℕ} {n : ℕ} {buffer : List ℕ} (f : Fits e n buffer) (whole : n ≤ length e) where
   pub front-length : length (take n e) ≡ n
-  front-length = simp length-take (omega (arith, f .entries))
+  front-length = simp length-take (omega arith)
 
   -- Behind the n first leaves all exponents are 0.
   front-same : SameEntries (take n e) e
@@ -49,3 +53,41 @@ module _ {e : List ℕ} {n : ℕ} {buffer : List ℕ} (f : Fits e n buffer) wher
         small = omega (arith, l, f .small);
         early = omega arith;
       }
+
+-- A table at the front of zeros has the same entries.
+copied-same : (e : List ℕ) (m : ℕ) → SameEntries (copiedFront e (replicate m 0)) e
+copied-same e m i = go (decLt i (length e))
+  where
+    go : Dec (i < length e) → getD (copiedFront e (replicate m 0)) i 0 ≡ getD e i 0
+    go (yes h) = filled-at (length e) (λ j. getD e j 0) (replicate m 0) i h
+    go (no h) =
+        filled-beyond (length e) (λ j. getD e j 0) (replicate m 0) i (omega arith)
+        ∙ same-replicate m i
+        ∙ sym (List·getD-eq-default e 0 (omega arith))
+
+-- It needs as many carets and has the same tree.
+module _ {e : List ℕ} {n : ℕ} {buffer : List ℕ} (f : Fits e n buffer) {table : List ℕ}
+    (copied : table ≡ copiedFront e (replicate maxCarets 0)) where
+  table-same : SameEntries table e
+  table-same i = ap (λ (t : List ℕ). getD t i 0) copied ∙ copied-same e maxCarets i
+
+  table-length : length table ≡ maxCarets
+  table-length =
+      let size : length (replicate {A = ℕ} maxCarets 0) ≡ maxCarets = length-replicate {A = ℕ} maxCarets 0 in
+      ap length copied
+      ∙ filled-length (length e) (λ j. getD e j 0) (replicate maxCarets 0) (omega (arith, f .entries))
+      ∙ size
+
+  pub copied-fits : Fits table n buffer
+  copied-fits = record {
+    entries = omega (arith, table-length);
+    enough = omega (arith, needed-same table e table-same, f .enough);
+    small = f .small;
+    room = f .room;
+  }
+
+  pub copied-whole : n ≤ length table
+  copied-whole = omega (arith, table-length, f .small)
+
+  pub copied-tree : treeOf n table ≡ treeOf n e
+  copied-tree = tree-same n table e table-same

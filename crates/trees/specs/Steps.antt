@@ -2,8 +2,9 @@
 use mathlib.Core.Path.{_≡_}
 use mathlib.Core.List.{List}
 use Prim.Native.Nat.{ℕ, _+_, _≤_, _<_}
-use lib.ListN.{length, drop}
+use lib.ListN.{length, drop, getD}
 use Rattle.lists.specs.Entries.{total}
+use Rattle.lists.specs.Tables.{filled}
 use Rattle.lists.specs.Writes.{Writing}
 use Rattle.trees.specs.declared.writer.Place.{Place}
 use Rattle.trees.specs.Building.{needed}
@@ -26,10 +27,14 @@ pub record Partly (e : List ℕ) (k : ℕ) (entry : List ℕ) (at : ℕ) (exit :
 
 -- A table, a number of carets that is enough for it, and a buffer with room for the shape.
 pub record Fits (e : List ℕ) (n : ℕ) (buffer : List ℕ) : Type 0 where
-  pub entries : n ≤ length e
+  pub entries : length e ≤ maxCarets
   pub enough : needed 0 e ≤ n
   pub small : n ≤ maxCarets
   pub room : shapeSize n ≤ length buffer
+
+-- The entries of a table, at the front of another.
+abbrev pub copiedFront : (e table : List ℕ) → List ℕ
+copiedFront e table = filled (length e) (λ i. getD e i 0) table
 
 -- The entries of a table from i on are 0.
 pub record Unused (e : List ℕ) (i : ℕ) : Type 0 where

@@ -1,12 +1,13 @@
 -- The shapes of a tree pair, written from two tables of exponents (01, 'What the desk can be asked').
---     nodesFrom es o   the nodes from a leaf on         WrotePair   the contract of `write_pair`
+--     nodesFrom es o   the nodes from a leaf on         tableCarets   the outcome of `count_carets`
+--     WrotePair        the contract of `write_pair`
 -- Assumes nothing.
 use mathlib.Core.Path.{_≡_}
 use mathlib.Core.Bool.{cond}
 use mathlib.Core.List.{List, [], _∷_, _++_}
 use Prim.Native.Nat.{ℕ, zero, suc, _+_}
 use lib.ListN.{length, replicate}
-use lib.Dec.{eqb, ltb}
+use lib.Dec.{ltb}
 use lib.Seq.{sets}
 use Rattle.refusals.specs.Outcomes.{Outcome, accepted, refused, after, then, refusal}
 use Rattle.trees.specs.declared.Pairing.{Pairing}
@@ -29,15 +30,13 @@ pairingOf (Carets n) = accepted n
 pairingOf (Refused r) = refusal r
 pairingOf Unfit = refused 0 0
 
--- The number of carets of two tables; tables of another size than `maxCarets`, or with more carets than a form within
--- the limits has, are unfit.
+-- The number of carets of two tables, whose exponents behind the last entry are 0; tables with more than `maxCarets`
+-- entries, or with more carets than a form within the limits has, are unfit.
 abbrev pub tableCarets : (b a : List ℕ) → Outcome ℕ
 tableCarets b a =
-    cond (eqb (length b) maxCarets)
-    (cond (eqb (length a) maxCarets)
-    (cond (ltb maxCarets (caretsOfSides b a)) (refused 0 0) (accepted (caretsOfSides b a)))
-    (refused 0 0))
-    (refused 0 0)
+    cond (ltb maxCarets (length b)) (refused 0 0)
+    (cond (ltb maxCarets (length a)) (refused 0 0)
+    (cond (ltb maxCarets (caretsOfSides b a)) (refused 0 0) (accepted (caretsOfSides b a))))
 
 -- The same beside buffers of the lengths m and p: then 7.
 abbrev pub pairCarets : (b a : List ℕ) (m p : ℕ) → Outcome ℕ

@@ -9,7 +9,8 @@ ghost use Rattle.lists.specs.Writes.{Wrote};
 ghost use Rattle.trees.specs.Writing.{nodesFrom};
 ghost use Rattle.trees.specs.Building.{treeOf};
 ghost use Rattle.trees.specs.Shapes.{shape as shapeOf};
-ghost use Rattle.trees.specs.Steps.{Room, Partly, Fits};
+ghost use Rattle.trees.specs.Steps.{Room, Partly, Fits, copiedFront};
+use crate::MAX_CARETS;
 use refusals::GeneratorIndex;
 use refusals::LeafNumber;
 
@@ -99,10 +100,45 @@ fn write_inner(e: &[u16], leaf: LeafNumber, shape: &mut [u8], at: usize) -> usiz
     write_spine(e, p.leaf, shape, p.at)
 }
 
+// The tree with n carets and the exponents of a table that has an entry for every leaf but the last.
+fn write_whole(e: &[u16], n: usize, shape: &mut [u8])
+    requires { ⌜ Fits (now e) n (now shape) ⌝ }
+    requires { ⌜ n ≤ length (now e) ⌝ }
+    ensures { λ _. ⌜ now (shape .exit) ≡ sets (now (shape .entry)) 0 (shapeOf (treeOf n (now (e .entry)))) ⌝ }
+{
+    write_spine(&e[..n], LeafNumber(0), shape, 0);
+}
+
+// The entries of a table, at the front of another.
+fn copy_front(e: &[u16], table: &mut [u16])
+    requires { ⌜ length (now e) ≤ length (now table) ⌝ }
+    ensures { λ _. ⌜ now (table .exit) ≡ copiedFront (now (e .entry)) (now (table .entry)) ⌝ }
+{
+    let mut k = 0;
+    while k < e.len() {
+        table[k] = e[k];
+        k += 1;
+    }
+}
+
+// The same tree from a shorter table: zeros stand behind its entries.
+fn write_short(e: &[u16], n: usize, shape: &mut [u8])
+    requires { ⌜ Fits (now e) n (now shape) ⌝ }
+    ensures { λ _. ⌜ now (shape .exit) ≡ sets (now (shape .entry)) 0 (shapeOf (treeOf n (now (e .entry)))) ⌝ }
+{
+    let mut table = [0u16; MAX_CARETS];
+    copy_front(e, &mut table);
+    write_whole(&table, n, shape);
+}
+
 // The tree with n carets and the exponents of a table, at the front of a buffer.
 pub fn write_tree(e: &[u16], n: usize, shape: &mut [u8])
     requires { ⌜ Fits (now e) n (now shape) ⌝ }
     ensures { λ _. ⌜ now (shape .exit) ≡ sets (now (shape .entry)) 0 (shapeOf (treeOf n (now (e .entry)))) ⌝ }
 {
-    write_spine(&e[..n], LeafNumber(0), shape, 0);
+    if e.len() < n {
+        write_short(e, n, shape);
+        return;
+    }
+    write_whole(e, n, shape);
 }

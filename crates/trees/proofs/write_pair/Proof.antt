@@ -1,82 +1,50 @@
 -- `write_pair` meets its contract: each answer has its case. Assumes nothing.
 use native.Mathlib.Omega.{arith}
 use borrow.Author.Needs.{needs}
-use Rattle.trees.proofs.PairAnswers.{unfit-b, unfit-a, unfit-pair, short-minus, short-plus}
+use Rattle.trees.proofs.PairAnswers.{Counts, counted, pair-unfit, short-minus, short-plus}
 use Rattle.trees.proofs.PairAnswers.{fits-minus, fits-plus, pair-written}
 use Rattle.trees.proofs.write_pair.Statement.{statement}
 use Rattle.trees.proofs.write_pair.Tie as tie
 
+-- The number of carets that was counted.
+counts : (c : tie.After-known-told)
+    → Counts (c .before .before .before .before .before .before .before .before .args .b .now)
+    (c .before .before .before .before .before .before .before .before .args .a .now) (c .before .counted .given .0 .0)
+counts c = counted (c .before .before .before .count-carets .ensures) (c .before .counted .given .1)
+
+count-carets-requires : tie.Need-count-carets-requires
+count-carets-requires c κs = search needs
+
+enum-known-counted : tie.Need-enum-known-counted
+enum-known-counted c = search needs
+
 returns : tie.Need-returns
-returns c = unfit-b (λ e. omega (arith, c .if1 .taken))
+returns c = pair-unfit (c .before .count-carets .ensures) (c .match .keys2)
+
+mul-if1 : tie.Need-mul-if1
+mul-if1 c = omega (arith, counts c .few)
+
+add-if1 : tie.Need-add-if1
+add-if1 c = omega (arith, counts c .few)
 
 returns-2 : tie.Need-returns-2
-returns-2 c = unfit-a (omega (arith, c .before .if1 .left)) (λ e. omega (arith, c .if2 .taken))
+returns-2 c = short-minus (counts (c .before)) (omega arith)
 
-carets-requires : tie.Need-carets-requires
-carets-requires c κs = search needs
+mul-if2 : tie.Need-mul-if2
+mul-if2 c = search needs
+
+add-if2 : tie.Need-add-if2
+add-if2 c = search needs
 
 returns-3 : tie.Need-returns-3
-returns-3 c =
-    unfit-pair (
-    record {
-      b-size = omega (arith, c .before .before .before .if1 .left);
-      a-size = omega (arith, c .before .before .if2 .left);
-      carets = c .before .carets .ensures;
-    }) (omega arith)
-
-mul-if4 : tie.Need-mul-if4
-mul-if4 c = search needs
-
-add-if4 : tie.Need-add-if4
-add-if4 c = search needs
-
-returns-4 : tie.Need-returns-4
-returns-4 c =
-    short-minus (
-    record {
-      b-size = omega (arith, c .before .before .before .before .if1 .left);
-      a-size = omega (arith, c .before .before .before .if2 .left);
-      carets = c .before .before .carets .ensures;
-    }) (omega arith) (omega arith)
-
-mul-if5 : tie.Need-mul-if5
-mul-if5 c = search needs
-
-add-if5 : tie.Need-add-if5
-add-if5 c = search needs
-
-returns-5 : tie.Need-returns-5
-returns-5 c =
-    short-plus (
-    record {
-      b-size = omega (arith, c .before .before .before .before .before .if1 .left);
-      a-size = omega (arith, c .before .before .before .before .if2 .left);
-      carets = c .before .before .before .carets .ensures;
-    }) (omega arith) (omega arith) (omega arith)
+returns-3 c = short-plus (counts (c .before .before)) (omega arith) (omega arith)
 
 write-tree-requires : tie.Need-write-tree-requires
-write-tree-requires c κs =
-    fits-minus {b = c .before .before .before .before .before .before .before .before .before .before .before .args .b
-    .now} (
-    record {
-      b-size = omega (arith, c .before .before .before .before .before .before .if1 .left);
-      a-size = omega (arith, c .before .before .before .before .before .if2 .left);
-      carets = c .before .before .before .before .carets .ensures;
-    }) (omega arith) (omega arith)
+write-tree-requires c κs = fits-minus (counts (c .before .before .before)) (omega arith)
 
 write-tree-requires-2 : tie.Need-write-tree-requires-2
 write-tree-requires-2 c κs =
-    fits-plus {a = c .before .before .before .before .before .before .before .before .before .before .before .before
-    .before .before .before .args .a .now} (
-    record {
-      b-size = omega (
-        arith,
-        c .before .before .before .before .before .before .before .before .before .before .if1
-            .left,
-      );
-      a-size = omega (arith, c .before .before .before .before .before .before .before .before .before .if2 .left);
-      carets = c .before .before .before .before .before .before .before .before .carets .ensures;
-    }) (omega arith) (omega arith)
+    fits-plus (counts (c .before .before .before .before .before .before .before)) (omega arith)
 
 same-length : tie.Need-same-length
 same-length c = search needs
@@ -84,44 +52,28 @@ same-length c = search needs
 same-length-2 : tie.Need-same-length-2
 same-length-2 c = search needs
 
-returns-6 : tie.Need-returns-6
-returns-6 c =
-    pair-written (
-    record {
-      b-size = omega (
-        arith,
-        c .before .before .before .before .before .before .before .before .before .before .before
-            .before .before .if1 .left,
-      );
-      a-size = omega (
-        arith,
-        c .before .before .before .before .before .before .before .before .before .before .before
-            .before .if2 .left,
-      );
-      carets = c .before .before .before .before .before .before .before .before .before .before .before .carets
-          .ensures;
-    })
-    (omega (arith, c .before .before .before .before .before .before .before .before .before .before .if3 .left))
-    (omega (arith, c .before .before .before .before .before .before .before .before .before .if4 .left)) (omega
-    (arith, c .before .before .before .before .before .before .before .before .if5 .left))
-    (c .before .before .before .before .before .before .write-tree .ensures) (c .before .before .write-tree2 .ensures)
+returns-4 : tie.Need-returns-4
+returns-4 c =
+    let first = c .before .before .before .before .before .before in
+    let second = first .before .before in
+    pair-written (counts (second .before .before)) (omega (arith, second .before .if1 .left))
+    (omega (arith, second .if2 .left)) (first .write-tree .ensures) (c .before .before .write-tree2 .ensures)
 
 pub write-pair-spec : {M : Type 1} → statement M
 write-pair-spec =
     tie.close
     (tie.spec
+    count-carets-requires
+    enum-known-counted
     returns
+    mul-if1
+    add-if1
     returns-2
-    carets-requires
+    mul-if2
+    add-if2
     returns-3
-    mul-if4
-    add-if4
-    returns-4
-    mul-if5
-    add-if5
-    returns-5
     write-tree-requires
     write-tree-requires-2
     same-length
     same-length-2
-    returns-6)
+    returns-4)

@@ -1,18 +1,22 @@
--- `write_tree` meets its contract. Assumes nothing.
+-- `write_whole` meets its contract. Assumes nothing.
 use mathlib.Core.Path.{sym, ap, _∙_}
 use mathlib.Core.List.{List}
 use Prim.Native.Nat.{ℕ}
 use lib.Seq.{sets}
 use borrow.Author.Needs.{needs}
 use Rattle.trees.proofs.WriteTree.{front-length, tree-room, tree-nodes}
-use Rattle.trees.proofs.writer.write_tree.Statement.{statement}
-use Rattle.trees.proofs.writer.write_tree.Tie as tie
+use Rattle.trees.proofs.writer.write_whole.Statement.{statement}
+use Rattle.trees.proofs.writer.write_whole.Tie as tie
 
 slice-aggregate-write-spine : tie.Need-slice-aggregate-write-spine
-slice-aggregate-write-spine c = sym (front-length (c .before .before .before .pre))
+slice-aggregate-write-spine c =
+    let pre = c .before .before .before .pre in
+    sym (front-length (pre .0) (pre .1))
 
 write-spine-requires : tie.Need-write-spine-requires
-write-spine-requires c κs = tree-room (c .before .before .before .before .pre)
+write-spine-requires c κs =
+    let pre = c .before .before .before .before .pre in
+    tree-room (pre .0) (pre .1)
 
 same-length : tie.Need-same-length
 same-length c = search needs
@@ -21,8 +25,8 @@ returns : tie.Need-returns
 returns c =
     let entry = c .before .before .before .before .before .before .before in
     c .before .before .write-spine .ensures .holds
-    ∙ ap (λ (bytes : List ℕ). sets (entry .args .shape .now) 0 bytes) (tree-nodes (entry .pre))
+    ∙ ap (λ (bytes : List ℕ). sets (entry .args .shape .now) 0 bytes) (tree-nodes (entry .pre .0) (entry .pre .1))
 
-pub write-tree-spec : {M : Type 1} → statement M
-write-tree-spec =
+pub write-whole-spec : {M : Type 1} → statement M
+write-whole-spec =
     tie.close (tie.spec slice-aggregate-write-spine write-spine-requires same-length returns)

@@ -1,0 +1,93 @@
+-- What an accepted call gives (demand 2), in the papers' terms, with every byte that it leaves.
+--     RecordOfWord m m′ n w         word to record: the word w, n bytes of record, the memory at entry and at exit
+--     PairOfRecord s m p m′ p′ n    record to tree pair: the record s, N = n, both buffers at entry and at exit
+--     LengthOfRecord s n            record to length: the record s, its length n
+--     WordOfRecord s w w′ n         record to word: the record s, n letters, the buffer at entry and at exit
+-- Names used, and where each is defined:
+--     SameMap u v                   u and v move every dyadic point from 0 to 1 alike           group, Maps
+--     Reduced f, letters f          the reduced form's clause; f written out in letters         group, Reducing, Forms
+--     exponent s f i                b_i (the Side s is bSide) or a_i (s is aSide)               group, Forms
+--     SmallestPair f t u            t and u have f's exponents a and b and one, smallest size   trees, Pairs
+--     SendsLeaves f t u             f's map sends leaf k of t to leaf k of u                    trees, Pairs
+--     Redundant t u                 a caret of both trees is redundant                          trees, Pairs
+--     shape t; carets t             the bytes of a tree; its number of carets                   trees, Shapes, Trees
+--     IsKind t k x                  caret k of t is of kind x                                   lengths, Kinds
+--     weights xs ys                 the sum of the weights of two lists of kinds                lengths, Weights
+--     At xs k x                     entry k of the list xs is x                                 lists, Entries
+--     Spells f w                    w is each x_k^e of f in order, through its letters, with    spelling, Spelling
+--                                   neighbouring inverse letters deleted until none is left
+-- Assumes nothing.
+use mathlib.Core.Path.{_≡_}
+use mathlib.Core.List.{List}
+use mathlib.Core.Logic.{_↔_}
+use Prim.Native.Nat.{ℕ, _+_, _*_, _≤_}
+use lib.ListN.{length, take, drop, getD}
+use Rattle.lists.specs.Entries.{At}
+use Rattle.group.specs.Letters.{Word}
+use Rattle.group.specs.Bytes.{bytesOf}
+use Rattle.group.specs.Maps.{SameMap}
+use Rattle.group.specs.Forms.{bSide, aSide, Form, exponent, letters}
+use Rattle.group.specs.Limits.{limit}
+use Rattle.group.specs.Reducing.{Reduced}
+use Rattle.refusals.specs.Outcomes.{accepted}
+use Rattle.records.specs.Reading.{decode}
+use Rattle.trees.specs.Trees.{Tree, carets}
+use Rattle.trees.specs.Pairs.{SmallestPair, Redundant, SendsLeaves}
+use Rattle.trees.specs.Shapes.{shape}
+use Rattle.lengths.specs.Kinds.{Kind, IsKind}
+use Rattle.lengths.specs.Weights.{weights}
+use Rattle.spelling.specs.Spelling.{Spells}
+use Rattle.words.specs.Recording.{Memory}
+
+-- Word to record: the record that is written is that of a reduced form with the word's map, and the tables hold that
+-- form's exponents; everything beyond is unchanged.
+pub record RecordOfWord (m m′ : Memory) (n : ℕ) (w : Word) : Type 0 where
+  pub form : Form
+  pub reads : decode (take n (m′ .buffer)) ≡ accepted form
+  pub reduced : Reduced form
+  pub same-map : SameMap (letters form) w
+  pub b-table : (i : ℕ) → i ≤ length w → getD (m′ .b) i 0 ≡ exponent bSide form i
+  pub a-table : (i : ℕ) → i ≤ length w → getD (m′ .a) i 0 ≡ exponent aSide form i
+  pub beyond :
+      (drop (length w + 1) (m′ .b) ≡ drop (length w + 1) (m .b))
+      × (drop (length w + 1) (m′ .a) ≡ drop (length w + 1) (m .a))
+      × (drop n (m′ .buffer) ≡ drop n (m .buffer))
+
+-- Record to tree pair: the shapes are those of the smallest pair with the exponents of the record's form, which has no
+-- redundant caret and the form's map; the answer is its N, at most 8,193.
+pub record PairOfRecord (s m p m′ p′ : List ℕ) (n : ℕ) : Type 0 where
+  pub form : Form
+  pub reads : decode s ≡ accepted form
+  pub minus : Tree
+  pub plus : Tree
+  pub smallest : SmallestPair form minus plus
+  pub number : (carets minus ≡ n) × (carets plus ≡ n)
+  pub few : n ≤ 2 * limit + 1
+  pub shapes : (take (2 * n + 1) m′ ≡ shape minus) × (take (2 * n + 1) p′ ≡ shape plus)
+  pub beyond : (drop (2 * n + 1) m′ ≡ drop (2 * n + 1) m) × (drop (2 * n + 1) p′ ≡ drop (2 * n + 1) p)
+  pub same-map : SendsLeaves form minus plus
+  pub no-redundant : Redundant minus plus → ⊥
+
+-- Record to length: the sum over k of the weight of caret k of T− with caret k of T+ of that pair.
+pub record LengthOfRecord (s : List ℕ) (n : ℕ) : Type 0 where
+  pub form : Form
+  pub reads : decode s ≡ accepted form
+  pub minus : Tree
+  pub plus : Tree
+  pub smallest : SmallestPair form minus plus
+  pub minus-kinds : List Kind
+  pub plus-kinds : List Kind
+  pub minus-are : (k : ℕ) (x : Kind) → At minus-kinds k x ↔ IsKind minus k x
+  pub plus-are : (k : ℕ) (x : Kind) → At plus-kinds k x ↔ IsKind plus k x
+  pub sum : n ≡ weights minus-kinds plus-kinds
+
+-- Record to word: the letters written are the one word that spells the record's form, a word of the same map.
+pub record WordOfRecord (s w w′ : List ℕ) (n : ℕ) : Type 0 where
+  pub form : Form
+  pub reads : decode s ≡ accepted form
+  pub word : Word
+  pub spells : (x : Word) → Spells form x ↔ (x ≡ word)
+  pub number : (length word ≡ n) × (n ≤ limit)
+  pub bytes : take n w′ ≡ bytesOf word
+  pub beyond : drop n w′ ≡ drop n w
+  pub same-map : SameMap word (letters form)

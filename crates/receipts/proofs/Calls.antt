@@ -1,0 +1,149 @@
+-- What the calls of the receipt program leave, where they do not refuse: the text fits into the buffer, and stands at its
+-- front. Assumes nothing.
+use mathlib.Core.Path.{_≡_, refl, sym, ap, _∙_, subst}
+use mathlib.Core.List.{List, [], _∷_}
+use Prim.Native.Nat.{ℕ, _+_, _*_, _^_, _<_, _≤_}
+use native.Mathlib.Decide.{decLt, ℕ-discrete}
+use native.Mathlib.Omega.{arith}
+use borrow.Author.Tests.{lt-ltb, le-ltb}
+use lib.ListN.{length, take, length-append, length-take}
+use lib.Seq.{sets}
+use Rattle.lists.proofs.Writes.{sets-front}
+use Rattle.lines.specs.Lines.{lineFeed, lastLine}
+use Rattle.lines.specs.Feeding.{keptLine, keptCount}
+use Rattle.lines.proofs.Feeding.{keep-length}
+use Rattle.lines.proofs.Taking.{keep-size}
+use Rattle.refusals.specs.Outcomes.{Outcome, accepted, refused, after, then, valued, writtenOf}
+use Rattle.refusals.specs.declared.Written.{Written}
+use Rattle.refusals.proofs.Outcomes.{accepted-same, accepted-refused}
+use Rattle.receipts.specs.Receipts.{receiptOf, receiptsFrom}
+use Rattle.receipts.specs.Serving.{Amid, lineSize, nextNumber, receiptThen, served, receiptSize, partSize}
+use Rattle.receipts.specs.Contracts.{fitting, Placed, Finished}
+use Rattle.receipts.specs.Contracts.{servingOf, answerOf, servedIn, ServedPart}
+use Rattle.receipts.specs.declared.Served.{Served}
+use Rattle.receipts.specs.declared.Serving.{Serving}
+use Rattle.receipts.proofs.Parts.{served-end, served-more}
+use Rattle.receipts.proofs.Sizes.{receipt-length}
+
+module _ {A : Type 0} (size : ℕ) (x : A) (out : List ℕ) where
+  -- A buffer that is too short.
+  pub fit-short : length out < size → fitting size x out ≡ refused 7 0
+  fit-short h = simp (lt-ltb (length out) size h)
+
+  -- One that is long enough.
+  pub fit-long : size ≤ length out → fitting size x out ≡ accepted x
+  fit-long h = simp (le-ltb (length out) size h)
+
+-- A text that was placed: the buffer is long enough, and the text stands at its front.
+pub placed-front : {size : ℕ} {text out out′ : List ℕ} {r : Written} {n : ℕ} → Placed size text out out′ r
+    → length text ≤ size → writtenOf r ≡ accepted n → take n out′ ≡ text
+placed-front {size} {text} {out} {out′} {r} {n} h le e = go (decLt (length out) size)
+  where
+    go : Dec (length out < size) → take n out′ ≡ text
+    go (yes short) =
+        absurd (accepted-refused (sym e ∙ h .result ∙ ap (valued length) (fit-short size text out short)))
+    go (no long) =
+        let fits : fitting size text out ≡ accepted text = fit-long size text out (omega arith) in
+        let same : n ≡ length text = accepted-same (sym e ∙ h .result ∙ ap (valued length) fits) in
+        ap (take n) (h .bytes ∙ ap (λ (o : Outcome (List ℕ)). after o out (λ t. sets out 0 t)) fits)
+        ∙ sets-front text out n (sym same) (omega (arith, long, le, same))
+
+-- The receipt of a last line fits into the size stated.
+pub last-size : (k : ℕ) (l : List ℕ) (n : ℕ) → k < 2 ^ 64 → length l ≤ n
+    → length (receiptsFrom k (lastLine l)) ≤ receiptSize n
+last-size k [] n h le = omega arith
+last-size k (x ∷ l) n h le =
+    omega (arith, length-append (receiptOf k (x ∷ l)) [], receipt-length k (x ∷ l) h, le)
+
+-- What `finish` writes.
+pub finish-front : (k held : ℕ) (line : List ℕ) {out out′ : List ℕ} {r : Written} {n : ℕ}
+    → Finished k held line out out′ r → k < 2 ^ 64 → length line ≡ lineSize → writtenOf r ≡ accepted n
+    → take n out′ ≡ receiptsFrom k (lastLine (take held line))
+finish-front k held line h few size e =
+    placed-front h (last-size k (take held line) lineSize few (omega (arith, length-take held line, size))) e
+
+-- The bounds of what is taken.
+pub record Bounds (s : List ℕ) (line : List ℕ) (held : ℕ) (m : Amid) : Type 0 where
+  pub room : length (m .receipts) ≤ length s * receiptSize 0 + 8 * (length s + length (take held line))
+  pub numbered : m .number < 2 ^ 64
+  pub size : length (m .line) ≡ length line
+
+bound-end : (x : ℕ) (s : List ℕ) (k : ℕ) (line : List ℕ) (held : ℕ) (m : Amid) → k < 2 ^ 64 → Bounds s line 0 m
+    → Bounds (x ∷ s) line held (receiptThen (receiptOf k (take held line)) m)
+bound-end x s k line held m h b = record {
+  room =
+      omega (
+        arith,
+        length-append (receiptOf k (take held line)) (m .receipts),
+        receipt-length k (take held line) h,
+        b .room,
+      );
+  numbered = b .numbered;
+  size = b .size;
+}
+
+bound-more : (x : ℕ) (s line : List ℕ) (held : ℕ) (m : Amid) → Bounds s (keptLine line held x) (keptCount line held) m
+    → Bounds (x ∷ s) line held m
+bound-more x s line held m b = record {
+  room = omega (arith, b .room, keep-size line held x);
+  numbered = b .numbered;
+  size = b .size ∙ keep-length line held x;
+}
+
+-- The receipts of a part, the number and the line buffer.
+pub served-bounds : (s : List ℕ) (k : ℕ) (line : List ℕ) (held : ℕ) → k < 2 ^ 64
+    → Bounds s line held (served s k line held)
+unfolding served
+served-bounds [] k line held h = record { room = omega arith; numbered = h; size = refl }
+served-bounds (x ∷ s) k line held h =
+    go (λ k′ line′ held′ h′. served-bounds s k′ line′ held′ h′) (ℕ-discrete x lineFeed)
+  where
+    Rest : Type 0
+    Rest = (k′ : ℕ) (line′ : List ℕ) (held′ : ℕ) → k′ < 2 ^ 64 → Bounds s line′ held′ (served s k′ line′ held′)
+
+    go : Rest → Dec (x ≡ lineFeed) → Bounds (x ∷ s) line held (served (x ∷ s) k line held)
+    go rest (yes e) =
+        subst (Bounds (x ∷ s) line held) (sym (served-end x s k line held e))
+        (bound-end x s k line held (served s (nextNumber k) line 0) h (rest (nextNumber k) line 0 (omega arith)))
+    go rest (no other) =
+        subst (Bounds (x ∷ s) line held) (sym (served-more x s k line held other))
+        (bound-more x s line held (served s k (keptLine line held x) (keptCount line held))
+        (rest k (keptLine line held x) (keptCount line held) h))
+
+-- A part that was taken: the answer, the line buffer, and the receipts at the front of the buffer.
+pub record FrontTaken (m : Amid) (line′ out′ : List ℕ) (s : Served) : Type 0 where
+  pub answers : s ≡ answerOf m
+  pub leaves-line : line′ ≡ m .line
+  pub front : take (s .written) out′ ≡ m .receipts
+
+-- What `serve` answers and writes.
+pub serve-front : {part : List ℕ} {k held : ℕ} {line out line′ out′ : List ℕ} {r : Serving} {s : Served}
+    → ServedPart part k held line out line′ out′ r → k < 2 ^ 64 → length line ≡ lineSize → servingOf r ≡ accepted s
+    → FrontTaken (served part k line held) line′ out′ s
+serve-front {part} {k} {held} {line} {out} {line′} {out′} {r} {s} h few size e =
+    go (decLt (length out) (partSize (length part)))
+  where
+    m : Amid
+    m = served part k line held
+
+    answer : Outcome Amid → Outcome Served
+    answer o = then o (λ x. accepted (answerOf x))
+
+    go : Dec (length out < partSize (length part)) → FrontTaken (served part k line held) line′ out′ s
+    go (yes short) =
+        absurd (accepted-refused (sym e ∙ h .result ∙ ap answer (fit-short (partSize (length part)) m out short)))
+    go (no long) =
+        let fits : servedIn part k held line out ≡ accepted m =
+        fit-long (partSize (length part)) m out (omega arith) in
+        let same : s ≡ answerOf m = accepted-same (sym e ∙ h .result ∙ ap answer fits) in
+        let count : s .written ≡ length (m .receipts) = ap (λ (x : Served). x .written) same in
+        let bound : length (m .receipts) ≤ length out =
+        omega (arith, long, size, length-take held line, served-bounds part k line held few .room) in
+        record {
+          answers = same;
+          leaves-line = h .leaves-line ∙ ap (λ (o : Outcome Amid). after o line (λ x. x .line)) fits;
+          front =
+              ap (take (s .written))
+              (h .leaves-out ∙ ap (λ (o : Outcome Amid). after o out (λ x. sets out 0 (x .receipts))) fits)
+              ∙ sets-front (m .receipts) out (s .written) (sym count) (omega (arith, count, bound));
+        }

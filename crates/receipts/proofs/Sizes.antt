@@ -1,0 +1,128 @@
+-- The sizes of receipts (01, 'The receipt program'): a word of n letters has at most 2n + 1 carets, its length is at most
+-- 8n + 4 and its record has at most 6 + 4n bytes; a number below 2^64 has at most 20 digits. Assumes nothing.
+use mathlib.Core.Path.{_≡_, refl, sym, subst}
+use mathlib.Core.List.{List, [], _∷_}
+use Prim.Native.Nat.{ℕ, _+_, _*_, _^_, _<_, _≤_}
+use native.Mathlib.Decide.{decLt}
+use native.Mathlib.Omega.{arith}
+use borrow.Author.Tests.{le-ltb}
+use lib.ListN.{length, length-append}
+use Rattle.group.specs.Letters.{Word}
+use Rattle.lines.specs.Lines.{lineFeed}
+use Rattle.group.specs.Forms.{aSide, Form, exponents}
+use Rattle.group.specs.Limits.{limit}
+use Rattle.group.specs.Products.{formOf}
+use Rattle.group.specs.Bytes.{Reading, isWord, notLetter, readWord}
+use Rattle.group.proofs.Bytes.{not-letter, read-length}
+use Rattle.group.proofs.Sizes.{form-sum, form-levels}
+use Rattle.refusals.specs.Outcomes.{Outcome, refused}
+use Rattle.records.specs.Format.{encode}
+use Rattle.records.proofs.Lengths.{encode-size}
+use Rattle.trees.specs.Pairs.{caretsOf, minusTree, plusTree}
+use Rattle.trees.proofs.Built.{tree-carets}
+use Rattle.trees.proofs.Pairs.{carets-limit}
+use Rattle.lengths.specs.Kinds.{Kind, kinds}
+use Rattle.lengths.specs.Weights.{weights, formLength}
+use Rattle.lengths.proofs.Weights.{weight-most}
+use Rattle.lengths.proofs.CaretKinds.{kinds-numbered}
+use Rattle.forest.specs.Judging.{judgedReading}
+use Rattle.receipts.specs.Text.{ascii, decimal, hexOf}
+use Rattle.receipts.specs.Receipts.{row, formReceipt, refusalReceipt, lineRead, receiptBy, receiptOf}
+use Rattle.receipts.specs.Serving.{receiptSize}
+use Rattle.receipts.proofs.Decimals.{decimal-length}
+use Rattle.receipts.proofs.Hex.{hex-length}
+use Rattle.receipts.proofs.Lines.{read-long, read-short}
+
+-- A caret weighs at most 4.
+weights-most : (xs ys : List Kind) → weights xs ys ≤ 4 * length xs
+weights-most [] ys = omega arith
+weights-most (x ∷ xs) [] = omega arith
+weights-most (x ∷ xs) (y ∷ ys) = omega (arith, weight-most x y, weights-most xs ys)
+
+-- The length is at most four times the number of carets.
+length-most : (f : Form) → formLength f ≤ 4 * caretsOf f
+length-most f =
+    omega (
+      arith,
+      weights-most (kinds (minusTree f)) (kinds (plusTree f)),
+      kinds-numbered (minusTree f),
+      tree-carets (caretsOf f) (exponents aSide f) (omega arith),
+    )
+
+-- The carets of a word.
+carets-most : (w : Word) → caretsOf (formOf w) ≤ 2 * length w + 1
+carets-most w = carets-limit (length w) (formOf w) (form-levels w) (form-sum w)
+
+-- The bytes of five fields in a row, and of four.
+five-length : (a b c d e : List ℕ)
+    → length (row (a ∷ b ∷ c ∷ d ∷ e ∷ [])) ≡ length a + length b + length c + length d + length e + 5
+five-length a b c d e =
+    let le = length-append e (lineFeed ∷ []) in
+    let ld = length-append d (32 ∷ row (e ∷ [])) in
+    let lc = length-append c (32 ∷ row (d ∷ e ∷ [])) in
+    let lb = length-append b (32 ∷ row (c ∷ d ∷ e ∷ [])) in
+    let la = length-append a (32 ∷ row (b ∷ c ∷ d ∷ e ∷ [])) in
+    omega (arith, le, ld, lc, lb, la)
+
+four-length : (a b c d : List ℕ) → length (row (a ∷ b ∷ c ∷ d ∷ [])) ≡ length a + length b + length c + length d + 4
+four-length a b c d =
+    let ld = length-append d (lineFeed ∷ []) in
+    let lc = length-append c (32 ∷ row (d ∷ [])) in
+    let lb = length-append b (32 ∷ row (c ∷ d ∷ [])) in
+    let la = length-append a (32 ∷ row (b ∷ c ∷ d ∷ [])) in
+    omega (arith, ld, lc, lb, la)
+
+-- The receipt of a word of n letters.
+form-length : (k : ℕ) (w : Word) → k < 2 ^ 64 → length w ≤ limit
+    → length (formReceipt k (length w) (formOf w)) ≤ receiptSize (length w)
+form-length k w h short =
+    omega (
+      arith,
+      five-length (decimal k) (decimal (length w)) (decimal (caretsOf (formOf w))) (decimal (formLength (formOf w)))
+          (hexOf (encode (formOf w))),
+      decimal-length k h,
+      decimal-length (length w) (omega (arith, short)),
+      decimal-length (caretsOf (formOf w)) (omega (arith, short, carets-most w)),
+      decimal-length (formLength (formOf w)) (omega (arith, short, carets-most w, length-most (formOf w))),
+      hex-length (encode (formOf w)),
+      encode-size (formOf w),
+      form-sum w,
+    )
+
+-- The receipt of a refusal.
+refusal-length : (k refusal place : ℕ) → k < 2 ^ 64 → refusal < 2 ^ 64 → place < 2 ^ 64
+    → length (refusalReceipt k refusal place) ≤ 71
+refusal-length k refusal place h i j =
+    omega (
+      arith,
+      four-length (decimal k) (ascii "refused") (decimal refusal) (decimal place),
+      decimal-length k h,
+      decimal-length refusal i,
+      decimal-length place j,
+    )
+
+-- The receipt of a line, in each of the cases of its reading.
+pub receipt-length : (k : ℕ) (line : List ℕ) → k < 2 ^ 64 → length (receiptOf k line) ≤ receiptSize (length line)
+receipt-length k line h = go (decLt limit (length line))
+  where
+    Goal : Outcome Word → Type 0
+    Goal o = length (receiptBy k o) ≤ receiptSize (length line)
+
+    reading : length line ≤ limit → (r : Reading) → readWord line ≡ r
+        → Goal (judgedReading r (length line) (length line + 1) (length line + 1))
+    reading short (notLetter offset) e =
+        let place : offset < 2 ^ 64 = omega (arith, short, not-letter line offset .0 e .within) in
+        omega (arith, refusal-length k 2 offset h (omega arith) place)
+    reading short (isWord w) e =
+        let n = read-length line w e in
+        let size : length (formReceipt k (length w) (formOf w)) ≤ receiptSize (length line) =
+        omega (arith, n, form-length k w h (omega (arith, short, n))) in
+        simp (le-ltb (length line + 1) (length line + 1) (omega arith)) size
+
+    go : Dec (limit < length line) → Goal (lineRead line)
+    go (yes long) =
+        let size : Goal (refused 1 limit) = omega (arith, refusal-length k 1 limit h (omega arith) (omega arith)) in
+        subst Goal (sym (read-long line long)) size
+    go (no short) =
+        let size = reading (omega arith) (readWord line) refl in
+        subst Goal (sym (read-short line (omega arith))) size

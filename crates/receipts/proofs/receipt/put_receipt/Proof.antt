@@ -1,0 +1,138 @@
+-- `put_receipt` meets its contract: a refusal, or the tables and the record of the word. Assumes nothing.
+use mathlib.Core.Path.{sym}
+use Prim.Native.Nat.{_≤_}
+use native.Mathlib.Omega.{arith}
+use lib.ListN.{length, length-take}
+use lib.Seq.{length-take-le}
+use borrow.Author.Needs.{needs}
+use Rattle.lists.proofs.Writes.{wrote-same}
+use Rattle.group.specs.Limits.{limit}
+use Rattle.receipts.proofs.LineReceipts.{own-long, receipt-refused, letters-within, record-within, receipt-row}
+use Rattle.receipts.proofs.receipt.put_receipt.Statement.{statement}
+use Rattle.receipts.proofs.receipt.put_receipt.Tie as tie
+
+slice-aggregate-word-to-record : tie.Need-slice-aggregate-word-to-record
+slice-aggregate-word-to-record c = search needs
+
+slice-aggregate-word-to-record-2 : tie.Need-slice-aggregate-word-to-record-2
+slice-aggregate-word-to-record-2 c = search needs
+
+slice-aggregate-word-to-record-3 : tie.Need-slice-aggregate-word-to-record-3
+slice-aggregate-word-to-record-3 c = search needs
+
+word-to-record-requires : tie.Need-word-to-record-requires
+word-to-record-requires c κs = search needs
+
+enum-known-written : tie.Need-enum-known-written
+enum-known-written c = search needs
+
+put-refusal-requires : tie.Need-put-refusal-requires
+put-refusal-requires c κs = search needs
+
+enum-known-written-2 : tie.Need-enum-known-written-2
+enum-known-written-2 c = search needs
+
+add-entries : tie.Need-add-entries
+add-entries c = search needs
+
+-- The line is a word, within the limit.
+few : (c : tie.After-written2) → length (c .before .before .before .before .before .before .before .before .before .before .before .args .line .now) ≤ limit
+few c =
+    letters-within own-long (c .before .before .before .before .before .word-to-record .ensures) (c .written2 .given .0 .0)
+    (c .written2 .given .1)
+
+array-share-prefix-b : tie.Need-array-share-prefix-b
+array-share-prefix-b c =
+    let known = c .before in
+    omega (arith, few known, known .before .before .before .before .before .word-to-record .kept)
+
+slice-aggregate-put-tables : tie.Need-slice-aggregate-put-tables
+slice-aggregate-put-tables c = sym (length-take-le _ _ (array-share-prefix-b (c .before)))
+
+array-share-prefix-a : tie.Need-array-share-prefix-a
+array-share-prefix-a c =
+    let known = c .before .before in
+    omega (arith, few known, known .before .before .before .before .before .word-to-record .kept)
+
+slice-aggregate-put-tables-2 : tie.Need-slice-aggregate-put-tables-2
+slice-aggregate-put-tables-2 c = sym (length-take-le _ _ (array-share-prefix-a (c .before)))
+
+array-share-prefix-record : tie.Need-array-share-prefix-record
+array-share-prefix-record c =
+    let known = c .before .before .before in
+    let call = known .before .before .before .before .before in
+    let read = call .word-to-record .ensures in
+    omega (
+      arith,
+      few known,
+      record-within own-long read (known .written2 .given .0 .0) (known .written2 .given .1),
+      call .word-to-record .kept,
+    )
+
+slice-aggregate-put-tables-3 : tie.Need-slice-aggregate-put-tables-3
+slice-aggregate-put-tables-3 c = sym (length-take-le _ _ (array-share-prefix-record (c .before)))
+
+put-tables-requires : tie.Need-put-tables-requires
+put-tables-requires c κs =
+    let known = c .before .before .before .before .before in
+    let call = known .before .before .before .before .before in
+    let read = call .word-to-record .ensures in
+    let n = known .written2 .given .0 .0 in
+    omega (
+      arith,
+      length-take n (call .word-to-record .last .1 .1 .1 .0),
+      record-within own-long read n (known .written2 .given .1),
+      call .before .before .before .before .before .before .pre,
+    )
+
+same-length : tie.Need-same-length
+same-length c = search needs
+
+returns : tie.Need-returns
+returns c =
+    let put = c .before .before in
+    let known = put .before .before .before in
+    let call = known .before .before .before .before .before in
+    let x = call .before .before .before .before .before .before .args in
+    wrote-same
+    (receipt-refused own-long (call .word-to-record .ensures) (known .written .given .0 .0) (x .number)
+    (known .written .given .1))
+    (put .put-refusal .ensures)
+
+same-length-2 : tie.Need-same-length-2
+same-length-2 c = search needs
+
+returns-2 : tie.Need-returns-2
+returns-2 c =
+    let put = c .before .before in
+    let known = put .before .before .before .before .before .before in
+    let call = known .before .before .before .before .before in
+    let x = call .before .before .before .before .before .before .args in
+    wrote-same
+    (receipt-row own-long (call .word-to-record .ensures) (known .written2 .given .0 .0) (known .written2 .given .1)
+    (x .number))
+    (put .put-tables .ensures)
+
+pub put-receipt-spec : {M : Type 1} → statement M
+put-receipt-spec =
+    tie.close
+    (tie.spec
+    slice-aggregate-word-to-record
+    slice-aggregate-word-to-record-2
+    slice-aggregate-word-to-record-3
+    word-to-record-requires
+    enum-known-written
+    put-refusal-requires
+    enum-known-written-2
+    add-entries
+    array-share-prefix-b
+    slice-aggregate-put-tables
+    array-share-prefix-a
+    slice-aggregate-put-tables-2
+    array-share-prefix-record
+    slice-aggregate-put-tables-3
+    put-tables-requires
+    same-length
+    returns
+    same-length-2
+    returns-2)

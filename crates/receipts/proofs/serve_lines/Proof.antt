@@ -1,0 +1,74 @@
+-- `serve_lines` meets its contract: what is left of the part gives what the whole gives. Assumes nothing.
+use Prim.Native.Nat.{_-_}
+use lib.ListN.{length}
+use Rattle.lists.proofs.Writes.{writing-length}
+use Rattle.receipts.specs.Serving.{served}
+use Rattle.receipts.proofs.Serves.{Serves, serve-start, serve-less, serve-room, serve-next}
+use Rattle.receipts.proofs.Serves.{serve-out-less, serve-out, serve-done}
+use Rattle.receipts.proofs.serve_lines.Statement.{statement}
+use Rattle.receipts.proofs.serve_lines.Tie as tie
+
+abbrev Inv-loop : tie.InvT-loop
+Inv-loop part number held line₀ out₀ at₀ k₀ h₀ written₀ line out at k h written =
+    Serves part out₀ (served part number line₀ held) line out at k h written
+
+abbrev μ-loop : tie.MeasureT-loop
+μ-loop part number held line₀ out₀ at₀ k₀ h₀ written₀ line out at k h written = length part - at
+
+loop-holds : tie.Need-loop-holds Inv-loop μ-loop
+loop-holds c = serve-start _ _ _ _ _ (c .before .before .fits .number .fits) (c .before .before .pre)
+
+feed-requires : tie.Need-feed-requires Inv-loop μ-loop
+feed-requires c κs = tt
+
+put-held-requires : tie.Need-put-held-requires Inv-loop μ-loop
+put-held-requires c κs =
+    let fed = c .before .before .before .before in
+    serve-room (fed .before .before .before .loop .inv) (fed .feed .ensures) (c .before .before .before .if1 .taken)
+    (fed .before .feed-arg .given .0 .1)
+
+wrapping-add-u64-requires : tie.Need-wrapping-add-u64-requires Inv-loop μ-loop
+wrapping-add-u64-requires c κs = tt
+
+loop-less : tie.Need-loop-less Inv-loop μ-loop
+loop-less c =
+    let branch = c .before .before .before .before .before .before .before in
+    let turn = branch .before .before .before in
+    serve-less (turn .before .loop .inv) (branch .before .feed .ensures) (branch .if1 .taken) (turn .loop-test .taken)
+
+loop-again : tie.Need-loop-again Inv-loop μ-loop
+loop-again c =
+    let branch = c .before .before .before .before .before .before .before in
+    serve-next (branch .before .before .before .before .loop .inv) (branch .before .feed .ensures) (branch .if1 .taken)
+    (c .before .before .before .put-held .ensures) (c .wrapping-add-u64 .ensures)
+
+loop-less-2 : tie.Need-loop-less-2 Inv-loop μ-loop
+loop-less-2 c =
+    let turn = c .before .before .before in
+    serve-out-less (turn .before .loop .inv) (c .before .feed .ensures) (c .if1 .left) (turn .loop-test .taken)
+
+loop-again-2 : tie.Need-loop-again-2 Inv-loop μ-loop
+loop-again-2 c = serve-out (c .before .before .before .before .loop .inv) (c .before .feed .ensures) (c .if1 .left)
+
+same-length : tie.Need-same-length Inv-loop μ-loop
+same-length c = writing-length (c .before .loop .inv .left .writing)
+
+returns : tie.Need-returns Inv-loop μ-loop
+returns c = serve-done (c .before .loop .inv) (c .loop-test .left)
+
+pub serve-lines-spec : {M : Type 1} → statement M
+serve-lines-spec =
+    tie.close
+    (tie.spec
+    Inv-loop
+    μ-loop
+    loop-holds
+    feed-requires
+    put-held-requires
+    wrapping-add-u64-requires
+    loop-less
+    loop-again
+    loop-less-2
+    loop-again-2
+    same-length
+    returns)

@@ -1,0 +1,6 @@
+-- The receipts of lines, and of an input that comes in parts.
+pub mod Text
+pub mod Receipts
+pub mod Serving
+pub mod Steps
+pub mod Contracts

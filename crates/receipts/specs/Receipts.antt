@@ -1,0 +1,59 @@
+-- The receipt of a line, and of an input (01, 'The receipt program').
+--     receiptOf k line    line k of the receipt program's output, without the header
+--     outputOf s          all that the program writes for the input s
+-- Assumes nothing.
+use mathlib.Core.List.{List, [], _∷_, _++_}
+use Prim.Native.Nat.{ℕ, suc, _+_}
+use lib.ListN.{length}
+use Rattle.lines.specs.Lines.{lineFeed, linesOf}
+use Rattle.group.specs.Letters.{Word}
+use Rattle.group.specs.Forms.{Form}
+use Rattle.group.specs.Products.{formOf}
+use Rattle.refusals.specs.Outcomes.{Outcome, accepted, refused}
+use Rattle.records.specs.Format.{encode}
+use Rattle.trees.specs.Pairs.{caretsOf}
+use Rattle.lengths.specs.Weights.{formLength}
+use Rattle.forest.specs.Judging.{judged}
+use Rattle.receipts.specs.Text.{ascii, decimal, hexOf}
+
+-- One space parts the fields of a line, and byte 0A hex ends it.
+abbrev pub row : List (List ℕ) → List ℕ
+row [] = lineFeed ∷ []
+row (field ∷ []) = field ++ (lineFeed ∷ [])
+row (field ∷ next ∷ fields) = field ++ (32 ∷ row (next ∷ fields))
+
+-- The header.
+abbrev pub header : List ℕ
+header = row (ascii "line" ∷ ascii "letters" ∷ ascii "carets" ∷ ascii "length" ∷ ascii "record" ∷ [])
+
+-- Line number, letters, N, length, record.
+abbrev pub formReceipt : (number letters : ℕ) → Form → List ℕ
+formReceipt number letters f =
+    row
+    (decimal number ∷ decimal letters ∷ decimal (caretsOf f) ∷ decimal (formLength f) ∷ hexOf (encode f) ∷ [])
+
+-- Line number, `refused`, number, place.
+abbrev pub refusalReceipt : (number refusal place : ℕ) → List ℕ
+refusalReceipt number refusal place = row (decimal number ∷ ascii "refused" ∷ decimal refusal ∷ decimal place ∷ [])
+
+-- The word that a line is, or refusal 1 or 2 of it: tables of as many entries as the word asks for are never too short.
+abbrev pub lineRead : List ℕ → Outcome Word
+lineRead line = judged line (length line + 1) (length line + 1)
+
+-- The receipt of a line by what it is read as.
+abbrev pub receiptBy : ℕ → Outcome Word → List ℕ
+receiptBy number (accepted w) = formReceipt number (length w) (formOf w)
+receiptBy number (refused refusal place) = refusalReceipt number refusal place
+
+-- The receipt of a line.
+abbrev pub receiptOf : (number : ℕ) (line : List ℕ) → List ℕ
+receiptOf number line = receiptBy number (lineRead line)
+
+-- The receipts of lines, the first of which has the number.
+abbrev pub receiptsFrom : ℕ → List (List ℕ) → List ℕ
+receiptsFrom number [] = []
+receiptsFrom number (line ∷ lines) = receiptOf number line ++ receiptsFrom (suc number) lines
+
+-- The header and the receipts of all lines of an input, numbered from 1.
+abbrev pub outputOf : List ℕ → List ℕ
+outputOf s = header ++ receiptsFrom 1 (linesOf s)

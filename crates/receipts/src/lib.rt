@@ -1,0 +1,128 @@
+// The receipts of an input that comes in parts: a header, then a line for each line of the input. A program reads a part,
+// calls, and writes what stands at the front of the output buffer.
+ghost use mathlib.Core.Path.{_≡_};
+ghost use mathlib.Core.Bool.{not};
+ghost use Prim.Native.Nat.{_≤_};
+ghost use lib.ListN.{length};
+ghost use lib.Dec.{ltb};
+ghost use Rattle.receipts.specs.Serving.{served, partSize};
+ghost use Rattle.receipts.specs.Contracts.{Begun, Finished, ServedPart, PartTaken};
+use records::BASE_SIZE;
+use refusals::LIMIT;
+use refusals::Refusal;
+use refusals::Written;
+
+mod receipt;
+mod text;
+
+// The bytes of a line that are kept: one more than a word has letters.
+pub const LINE: usize = LIMIT + 1;
+
+// The most bytes of the receipt of a line, but for eight for each of its letters.
+const SHORT_RECEIPT: usize = 85 + 2 * BASE_SIZE;
+
+// The most bytes of the receipt of a line that is kept.
+const LONG_RECEIPT: usize = SHORT_RECEIPT + 8 * LINE;
+
+// The bytes of a part for which a buffer of OUTPUT bytes is long enough.
+pub const PART: usize = 4096;
+
+// The bytes that the receipts of a part of PART bytes need.
+pub const OUTPUT: usize = PART * SHORT_RECEIPT + 8 * (PART + LINE);
+
+// Behind a part: the number of the line that has begun, how many of its bytes are held, and the bytes of the receipts.
+pub struct Served {
+    pub number: u64,
+    pub held: usize,
+    pub written: usize,
+}
+
+// The answer of `serve`.
+pub enum Serving {
+    Taken(Served),
+    Refused(Refusal),
+}
+
+// The header, at the front of a buffer.
+pub fn begin(out: &mut [u8]) -> Written
+    ensures { λ r. ⌜ Begun (now (out .entry)) (now (out .exit)) r ⌝ }
+{
+    if out.len() < 34 {
+        return Written::Refused(Refusal::ShortBuffer);
+    }
+    Written::Bytes(text::put(b"line letters carets length record\n", out, 0))
+}
+
+// Whether a buffer is long enough for the receipts of a part.
+fn is_enough(out: usize, part: usize) -> bool
+    ensures { λ r. ⌜ r ≡ not (ltb out (partSize part)) ⌝ }
+{
+    if out < 8 * LINE {
+        return false;
+    }
+    part <= (out - 8 * LINE) / (SHORT_RECEIPT + 8)
+}
+
+// The receipts of the lines that end in a part, at the front of a buffer.
+fn serve_lines(
+    part: &[u8],
+    number: u64,
+    held: usize,
+    line: &mut [u8; LINE],
+    out: &mut [u8],
+) -> Served
+    requires { ⌜ partSize (length (now part)) ≤ length (now out) ⌝ }
+    ensures { λ r. ⌜ PartTaken (served (now (part .entry)) number (now (line .entry)) held) (now (out .entry))
+        (now (line .exit)) (now (out .exit)) r ⌝ }
+{
+    let mut at = 0;
+    let mut k = number;
+    let mut h = held;
+    let mut written = 0;
+    while at < part.len() {
+        let fed = lines::feed(part, at, line, h);
+        at = fed.next;
+        h = fed.held;
+        if fed.ended {
+            written = receipt::put_held(k, line, h, out, written);
+            k = std::num::wrapping_add_u64(k, 1);
+            h = 0;
+        }
+    }
+    Served {
+        number: k,
+        held: h,
+        written,
+    }
+}
+
+// A part of the input, from the number of the line that has begun and the bytes of it that are held: the receipts of the
+// lines that end in the part, at the front of the buffer.
+pub fn serve(
+    part: &[u8],
+    number: u64,
+    held: usize,
+    line: &mut [u8; LINE],
+    out: &mut [u8],
+) -> Serving
+    ensures { λ r. ⌜ ServedPart (now (part .entry)) number held (now (line .entry)) (now (out .entry))
+        (now (line .exit)) (now (out .exit)) r ⌝ }
+{
+    if !is_enough(out.len(), part.len()) {
+        return Serving::Refused(Refusal::ShortBuffer);
+    }
+    Serving::Taken(serve_lines(part, number, held, line, out))
+}
+
+// Behind the last part: the receipt of a line that has no end, at the front of the buffer.
+pub fn finish(number: u64, held: usize, line: &[u8; LINE], out: &mut [u8]) -> Written
+    ensures { λ r. ⌜ Finished number held (now (line .entry)) (now (out .entry)) (now (out .exit)) r ⌝ }
+{
+    if out.len() < LONG_RECEIPT {
+        return Written::Refused(Refusal::ShortBuffer);
+    }
+    if held == 0 {
+        return Written::Bytes(0);
+    }
+    Written::Bytes(receipt::put_held(number, line, held, out, 0))
+}

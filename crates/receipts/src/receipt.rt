@@ -1,0 +1,140 @@
+// The receipt of a line.
+ghost use mathlib.Core.Path.{_≡_};
+ghost use Prim.Native.Nat.{_+_, _*_, _≤_};
+ghost use lib.ListN.{length, take};
+ghost use Rattle.lists.specs.Writes.{Wrote};
+ghost use Rattle.refusals.specs.Refusals.{numberOf, placeOf};
+ghost use Rattle.trees.specs.Writing.{pairingOf};
+ghost use Rattle.lengths.specs.Contracts.{lengthOf};
+ghost use Rattle.receipts.specs.Receipts.{receiptOf, refusalReceipt};
+ghost use Rattle.receipts.specs.Serving.{receiptSize};
+ghost use Rattle.receipts.specs.Steps.{valueIn, fourNumbers, recordRow, tablesRow};
+use crate::text;
+use lengths::Length;
+use records::BASE_SIZE;
+use refusals::LIMIT;
+use refusals::Refusal;
+use refusals::Written;
+use trees::Pairing;
+
+// The bytes of the longest record that a word has.
+const RECORD: usize = BASE_SIZE + 4 * LIMIT;
+
+// Line number, `refused`, number, place.
+fn put_refusal(number: u64, r: Refusal, out: &mut [u8], at: usize) -> usize
+    requires { ⌜ at + 71 ≤ length (now out) ⌝ }
+    ensures { λ end. ⌜ Wrote (refusalReceipt number (numberOf r) (placeOf r)) (now (out .entry)) at
+        (now (out .exit)) end ⌝ }
+{
+    let behind_line = text::put_number(number, b' ', out, at);
+    let behind_word = text::put(b"refused ", out, behind_line);
+    let behind_number = text::put_number(refusals::number(r) as u64, b' ', out, behind_word);
+    text::put_number(refusals::place(r) as u64, b'\n', out, behind_number)
+}
+
+// Four numbers, a space behind each.
+fn put_numbers(k: u64, l: u64, m: u64, n: u64, out: &mut [u8], at: usize) -> usize
+    requires { ⌜ at + 84 ≤ length (now out) ⌝ }
+    ensures { λ r. ⌜ Wrote (fourNumbers k l m n) (now (out .entry)) at (now (out .exit)) r ⌝ }
+{
+    let behind_k = text::put_number(k, b' ', out, at);
+    let behind_l = text::put_number(l, b' ', out, behind_k);
+    let behind_m = text::put_number(m, b' ', out, behind_l);
+    text::put_number(n, b' ', out, behind_m)
+}
+
+// Four numbers and a record.
+fn put_record(k: u64, l: u64, m: u64, n: u64, record: &[u8], out: &mut [u8], at: usize) -> usize
+    requires { ⌜ at + (85 + 2 * length (now «record»)) ≤ length (now out) ⌝ }
+    ensures { λ r. ⌜ Wrote (recordRow k l m n (now («record» .entry))) (now (out .entry)) at (now (out .exit)) r ⌝ }
+{
+    let behind_numbers = put_numbers(k, l, m, n, out, at);
+    let behind_record = text::put_hex(record, out, behind_numbers);
+    text::put(b"\n", out, behind_record)
+}
+
+// The carets of two tables.
+fn carets_in(pairing: Pairing) -> usize
+    ensures { λ r. ⌜ r ≡ valueIn (pairingOf pairing) ⌝ }
+{
+    match pairing {
+        Pairing::Carets(n) => n,
+        Pairing::Refused(_) => 0,
+        Pairing::Unfit => 0,
+    }
+}
+
+// The length of two tables.
+fn letters_in(length: Length) -> usize
+    ensures { λ r. ⌜ r ≡ valueIn (lengthOf length) ⌝ }
+{
+    match length {
+        Length::Letters(n) => n,
+        Length::Unfit => 0,
+    }
+}
+
+// Line number, letters, carets, length and record; the carets and the length are those of two tables.
+fn put_tables(
+    number: u64,
+    letters: usize,
+    b: &[u16],
+    a: &[u16],
+    record: &[u8],
+    out: &mut [u8],
+    at: usize,
+) -> usize
+    requires { ⌜ at + (85 + 2 * length (now «record»)) ≤ length (now out) ⌝ }
+    ensures { λ r. ⌜ Wrote (tablesRow number letters (now (b .entry)) (now (a .entry)) (now («record» .entry)))
+        (now (out .entry)) at (now (out .exit)) r ⌝ }
+{
+    let carets = carets_in(trees::count_carets(b, a));
+    let least = letters_in(lengths::pair_length(b, a));
+    put_record(
+        number,
+        letters as u64,
+        carets as u64,
+        least as u64,
+        record,
+        out,
+        at,
+    )
+}
+
+// The receipt of a line.
+fn put_receipt(number: u64, line: &[u8], out: &mut [u8], at: usize) -> usize
+    requires { ⌜ at + receiptSize (length (now line)) ≤ length (now out) ⌝ }
+    ensures { λ r. ⌜ Wrote (receiptOf number (now (line .entry))) (now (out .entry)) at (now (out .exit)) r ⌝ }
+{
+    let mut b = [0u16; LIMIT + 1];
+    let mut a = [0u16; LIMIT + 1];
+    let mut record = [0u8; RECORD];
+    let written = words::word_to_record(line, &mut b, &mut a, &mut record);
+    match written {
+        Written::Refused(r) => put_refusal(number, r, out, at),
+        Written::Bytes(n) => {
+            let entries = line.len() + 1;
+            put_tables(
+                number,
+                line.len(),
+                &b[..entries],
+                &a[..entries],
+                &record[..n],
+                out,
+                at,
+            )
+        }
+    }
+}
+
+// The receipt of the bytes of a line that are held in a buffer.
+pub fn put_held(number: u64, line: &[u8], held: usize, out: &mut [u8], at: usize) -> usize
+    requires { ⌜ at + receiptSize (length (take held (now line))) ≤ length (now out) ⌝ }
+    ensures { λ r. ⌜ Wrote (receiptOf number (take held (now (line .entry)))) (now (out .entry)) at
+        (now (out .exit)) r ⌝ }
+{
+    if held < line.len() {
+        return put_receipt(number, &line[..held], out, at);
+    }
+    put_receipt(number, line, out, at)
+}
