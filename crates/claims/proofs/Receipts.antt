@@ -11,9 +11,11 @@ use Rattle.receipts.specs.Serving.{Amid, lineSize, served}
 use Rattle.receipts.specs.declared.Served.{Served}
 use Rattle.receipts.proofs.Parts.{served-append}
 use Rattle.receipts.proofs.Lines.{receipt-cut, closed, closed-then, served-lines}
-use Rattle.receipts.proofs.Calls.{placed-front, finish-front, serve-front, served-bounds}
+use Rattle.receipts.proofs.Bounds.{served-bounds}
+use Rattle.receipts.proofs.Calls.{placed-front, finish-front, serve-front}
 use Rattle.claims.specs.Receipts.{LinesOfBytes, CutKeepsReceipt, ServeCall, Run, wholeOf, ReceiptsOfInput}
 
+-- The two parts of the claim on lines.
 pub lines-of-bytes : LinesOfBytes
 lines-of-bytes = record {
   no-line-feed = λ s l k. lines-no-feed s [] (λ i r. r) k l;
@@ -27,6 +29,7 @@ lines-of-bytes = record {
     go s (inl e) = inl e
     go s (inr h) = inr (h .0 .last, h .0 .front, h .0 .other, h .0 .same, h .1)
 
+-- By what a line is read as.
 pub cut-keeps-receipt : CutKeepsReceipt
 cut-keeps-receipt = receipt-cut
 
@@ -39,9 +42,9 @@ part-closed {part} {k} {held} {line} {line′} {s} first rest whole c few size e
     let m : Amid = served part k line held in
     let cut = serve-front (c .contract) few size (c .taken) in
     let behind : Amid = served whole (m .number) (m .line) (m .held) in
+    let from : Served → List ℕ → List ℕ = λ x l. closed (served whole (x .number) l (x .held)) in
     ap₂ (λ (a b : List ℕ). a ++ b) (c .wrote ∙ cut .front)
-    (e
-    ∙ ap₂ (λ (x : Served) (l : List ℕ). closed (served whole (x .number) l (x .held))) (cut .answers) (cut .leaves-line))
+    (e ∙ ap₂ from (cut .answers) (cut .leaves-line))
     ∙ sym (closed-then (m .receipts) behind)
     ∙ sym (ap closed (served-append part whole k line held))
 
@@ -60,6 +63,7 @@ run-closed (part ∷ parts) k held line bytes few size (s, line′, first, rest,
     ∙ part-closed first rest (wholeOf parts) c few size
     (run-closed parts (s .number) (s .held) line′ rest few′ size′ run)
 
+-- The header, then the receipts of all lines.
 pub receipts-of-input : ReceiptsOfInput
 receipts-of-input parts line out out′ bytes r n size few begun e run =
     ap₂ (λ (s t : List ℕ). s ++ t) (placed-front begun (omega arith) e)

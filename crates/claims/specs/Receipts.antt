@@ -33,7 +33,8 @@ abbrev pub CutKeepsReceipt : Type 0
 CutKeepsReceipt = (number : ℕ) (line : List ℕ) → receiptOf number (take (limit + 1) line) ≡ receiptOf number line
 
 -- One call of `serve` that takes a part: what it wrote, and the number, the count and the line buffer that it left.
-pub record ServeCall (part : List ℕ) (number held : ℕ) (line : List ℕ) (s : Served) (line′ bytes : List ℕ) : Type 0 where
+pub record ServeCall (part : List ℕ) (number held : ℕ) (line : List ℕ) (s : Served) (line′ bytes : List ℕ)
+    : Type 0 where
   pub out : List ℕ
   pub out′ : List ℕ
   pub answer : Serving

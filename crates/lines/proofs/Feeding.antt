@@ -29,6 +29,19 @@ keep-length line held x = cases (ltb held (length line))
     cases true = length-set line held x
     cases false = refl
 
+module _ (x : ℕ) (s : List ℕ) (i : ℕ) (line : List ℕ) (held : ℕ) where
+  -- A line feed ends the line.
+  pub took-end : x ≡ lineFeed
+      → took (x ∷ s) i line held ≡ record { line = line; fed = record { next = i + 1; held = held; ended = true } }
+  unfolding took
+  took-end e = simp (eq-eqb x lineFeed e)
+
+  -- Any other byte is kept.
+  pub took-more : (x ≡ lineFeed → ⊥)
+      → took (x ∷ s) i line held ≡ took s (i + 1) (keptLine line held x) (keptCount line held)
+  unfolding took
+  took-more other = simp (ne-eqb x lineFeed other)
+
 -- Amid a part: what is left of it gives from here what the whole gives from the start.
 pub record Feeding (s : List ℕ) (from : ℕ) (line₀ : List ℕ) (held₀ : ℕ) (line : List ℕ) (i held : ℕ) : Type 0 where
   pub size : length line ≡ length line₀
@@ -51,23 +64,24 @@ module _ {s : List ℕ} {from : ℕ} {line₀ : List ℕ} {held₀ : ℕ} {line 
     -- The line ends.
     pub feed-end : getD s i 0 ≡ lineFeed
         → TookLine (drop from s) from line₀ held₀ line (record { next = i + 1; held = held; ended = true })
-    unfolding took
     feed-end e =
         let here : took (drop i s) i line held ≡ record {
           line = line;
           fed = record { next = i + 1; held = held; ended = true };
-        } = rw next (simp (eq-eqb (getD s i 0) lineFeed e)) in
+        } = rw next (took-end (getD s i 0) (drop (i + 1) s) i line held e) in
         took-line _ (sym here ∙ f .same)
 
     -- One byte more of the line.
     pub feed-more : (line′ : List ℕ) (held′ : ℕ) → (getD s i 0 ≡ lineFeed → ⊥) → line′ ≡ keptLine line held (getD s i 0)
         → held′ ≡ keptCount line held → Feeding s from line₀ held₀ line′ (i + 1) held′
-    unfolding took
     feed-more line′ held′ other e e′ =
         let here : took (drop i s) i line held
         ≡ took (drop (i + 1) s) (i + 1) (keptLine line held (getD s i 0)) (keptCount line held) =
-        rw next (simp (ne-eqb (getD s i 0) lineFeed other)) in
-        record { size = ap length e ∙ keep-length line held (getD s i 0) ∙ f .size; same = rw (e, e′) (sym here ∙ f .same) }
+        rw next (took-more (getD s i 0) (drop (i + 1) s) i line held other) in
+        record {
+          size = ap length e ∙ keep-length line held (getD s i 0) ∙ f .size;
+          same = rw (e, e′) (sym here ∙ f .same);
+        }
 
   -- The part ends.
   pub feed-out : length s ≤ i

@@ -1,4 +1,5 @@
--- What a line buffer holds: the bytes of the line, cut to the size of the buffer. Assumes nothing.
+-- What a line buffer holds: the bytes of the line, cut to the size of the buffer; with one byte more of the line, it
+-- holds one byte more at most. Assumes nothing.
 use mathlib.Core.Path.{_≡_, sym, ap, _∙_}
 use mathlib.Core.List.{List, [], _∷_, _++_}
 use Prim.Native.Nat.{ℕ, _+_, _<_, _≤_}
@@ -51,4 +52,19 @@ hold-more {l} {line} {held} x h = go (decLt held (length line))
           count = size ∙ ap length (sym same);
           bytes = h .bytes ∙ sym same;
         } in
+        rw (sym (keep-outside line held x (omega arith) .0), sym (keep-outside line held x (omega arith) .1)) kept
+
+-- One byte more is held at most.
+pub keep-size : (line : List ℕ) (held x : ℕ)
+    → length (take (keptCount line held) (keptLine line held x)) ≤ length (take held line) + 1
+keep-size line held x = go (decLt held (length line))
+  where
+    go : Dec (held < length line)
+        → length (take (keptCount line held) (keptLine line held x)) ≤ length (take held line) + 1
+    go (yes lt) =
+        let kept : length (take (held + 1) (set line held x)) ≤ length (take held line) + 1 =
+        omega (arith, length-take (held + 1) (set line held x), length-set line held x, length-take held line) in
+        rw (sym (keep-inside line held x lt .0), sym (keep-inside line held x lt .1)) kept
+    go (no full) =
+        let kept : length (take held line) ≤ length (take held line) + 1 = omega arith in
         rw (sym (keep-outside line held x (omega arith) .0), sym (keep-outside line held x (omega arith) .1)) kept

@@ -1,4 +1,3 @@
 pub mod Feeding
 pub mod Lines
 pub mod Holding
-pub mod Taking

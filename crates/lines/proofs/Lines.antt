@@ -27,6 +27,7 @@ module _ (l s : List ℕ) (x : ℕ) where
 abbrev pub NoLineFeed : List ℕ → Type 0
 NoLineFeed l = (i : ℕ) → At l i lineFeed → ⊥
 
+-- One byte more, which is none.
 no-feed-more : (l : List ℕ) (x : ℕ) → NoLineFeed l → (x ≡ lineFeed → ⊥) → NoLineFeed (l ++ (x ∷ []))
 no-feed-more l x h other i p = go (at-split l (x ∷ []) i lineFeed p)
   where

@@ -1,29 +1,26 @@
--- What the calls of the receipt program leave, where they do not refuse: the text fits into the buffer, and stands at its
--- front. Assumes nothing.
-use mathlib.Core.Path.{_≡_, refl, sym, ap, _∙_, subst}
+-- What the calls of the receipt program leave, where they do not refuse: the text fits into the buffer, and stands at
+-- its front. Assumes nothing.
+use mathlib.Core.Path.{_≡_, sym, ap, _∙_}
 use mathlib.Core.List.{List, [], _∷_}
-use Prim.Native.Nat.{ℕ, _+_, _*_, _^_, _<_, _≤_}
-use native.Mathlib.Decide.{decLt, ℕ-discrete}
+use Prim.Native.Nat.{ℕ, _^_, _<_, _≤_}
+use native.Mathlib.Decide.{decLt}
 use native.Mathlib.Omega.{arith}
 use borrow.Author.Tests.{lt-ltb, le-ltb}
 use lib.ListN.{length, take, length-append, length-take}
 use lib.Seq.{sets}
 use Rattle.lists.proofs.Writes.{sets-front}
-use Rattle.lines.specs.Lines.{lineFeed, lastLine}
-use Rattle.lines.specs.Feeding.{keptLine, keptCount}
-use Rattle.lines.proofs.Feeding.{keep-length}
-use Rattle.lines.proofs.Taking.{keep-size}
+use Rattle.lines.specs.Lines.{lastLine}
 use Rattle.refusals.specs.Outcomes.{Outcome, accepted, refused, after, then, valued, writtenOf}
 use Rattle.refusals.specs.declared.Written.{Written}
 use Rattle.refusals.proofs.Outcomes.{accepted-same, accepted-refused}
 use Rattle.receipts.specs.Receipts.{receiptOf, receiptsFrom}
-use Rattle.receipts.specs.Serving.{Amid, lineSize, nextNumber, receiptThen, served, receiptSize, partSize}
+use Rattle.receipts.specs.Serving.{Amid, lineSize, served, receiptSize, partSize}
 use Rattle.receipts.specs.Contracts.{fitting, Placed, Finished}
 use Rattle.receipts.specs.Contracts.{servingOf, answerOf, servedIn, ServedPart}
 use Rattle.receipts.specs.declared.Served.{Served}
 use Rattle.receipts.specs.declared.Serving.{Serving}
-use Rattle.receipts.proofs.Parts.{served-end, served-more}
 use Rattle.receipts.proofs.Sizes.{receipt-length}
+use Rattle.receipts.proofs.Bounds.{served-bounds}
 
 module _ {A : Type 0} (size : ℕ) (x : A) (out : List ℕ) where
   -- A buffer that is too short.
@@ -62,54 +59,6 @@ pub finish-front : (k held : ℕ) (line : List ℕ) {out out′ : List ℕ} {r :
 finish-front k held line h few size e =
     placed-front h (last-size k (take held line) lineSize few (omega (arith, length-take held line, size))) e
 
--- The bounds of what is taken.
-pub record Bounds (s : List ℕ) (line : List ℕ) (held : ℕ) (m : Amid) : Type 0 where
-  pub room : length (m .receipts) ≤ length s * receiptSize 0 + 8 * (length s + length (take held line))
-  pub numbered : m .number < 2 ^ 64
-  pub size : length (m .line) ≡ length line
-
-bound-end : (x : ℕ) (s : List ℕ) (k : ℕ) (line : List ℕ) (held : ℕ) (m : Amid) → k < 2 ^ 64 → Bounds s line 0 m
-    → Bounds (x ∷ s) line held (receiptThen (receiptOf k (take held line)) m)
-bound-end x s k line held m h b = record {
-  room =
-      omega (
-        arith,
-        length-append (receiptOf k (take held line)) (m .receipts),
-        receipt-length k (take held line) h,
-        b .room,
-      );
-  numbered = b .numbered;
-  size = b .size;
-}
-
-bound-more : (x : ℕ) (s line : List ℕ) (held : ℕ) (m : Amid) → Bounds s (keptLine line held x) (keptCount line held) m
-    → Bounds (x ∷ s) line held m
-bound-more x s line held m b = record {
-  room = omega (arith, b .room, keep-size line held x);
-  numbered = b .numbered;
-  size = b .size ∙ keep-length line held x;
-}
-
--- The receipts of a part, the number and the line buffer.
-pub served-bounds : (s : List ℕ) (k : ℕ) (line : List ℕ) (held : ℕ) → k < 2 ^ 64
-    → Bounds s line held (served s k line held)
-unfolding served
-served-bounds [] k line held h = record { room = omega arith; numbered = h; size = refl }
-served-bounds (x ∷ s) k line held h =
-    go (λ k′ line′ held′ h′. served-bounds s k′ line′ held′ h′) (ℕ-discrete x lineFeed)
-  where
-    Rest : Type 0
-    Rest = (k′ : ℕ) (line′ : List ℕ) (held′ : ℕ) → k′ < 2 ^ 64 → Bounds s line′ held′ (served s k′ line′ held′)
-
-    go : Rest → Dec (x ≡ lineFeed) → Bounds (x ∷ s) line held (served (x ∷ s) k line held)
-    go rest (yes e) =
-        subst (Bounds (x ∷ s) line held) (sym (served-end x s k line held e))
-        (bound-end x s k line held (served s (nextNumber k) line 0) h (rest (nextNumber k) line 0 (omega arith)))
-    go rest (no other) =
-        subst (Bounds (x ∷ s) line held) (sym (served-more x s k line held other))
-        (bound-more x s line held (served s k (keptLine line held x) (keptCount line held))
-        (rest k (keptLine line held x) (keptCount line held) h))
-
 -- A part that was taken: the answer, the line buffer, and the receipts at the front of the buffer.
 pub record FrontTaken (m : Amid) (line′ out′ : List ℕ) (s : Served) : Type 0 where
   pub answers : s ≡ answerOf m
@@ -138,7 +87,7 @@ serve-front {part} {k} {held} {line} {out} {line′} {out′} {r} {s} h few size
         let same : s ≡ answerOf m = accepted-same (sym e ∙ h .result ∙ ap answer fits) in
         let count : s .written ≡ length (m .receipts) = ap (λ (x : Served). x .written) same in
         let bound : length (m .receipts) ≤ length out =
-        omega (arith, long, size, length-take held line, served-bounds part k line held few .room) in
+        omega (arith, long, size, length-take held line, served-bounds part k line held few .bytes) in
         record {
           answers = same;
           leaves-line = h .leaves-line ∙ ap (λ (o : Outcome Amid). after o line (λ x. x .line)) fits;

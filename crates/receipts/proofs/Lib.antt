@@ -13,8 +13,10 @@ pub mod LineReceipts
 pub mod Parts
 pub mod Turns
 pub mod Lines
--- the calls: how many bytes a receipt has, what the calls leave, and their steps and answers
+-- the calls: how many bytes a receipt and the receipts of a part have, what the calls leave, their steps and answers
+pub mod WordSizes
 pub mod Sizes
+pub mod Bounds
 pub mod Calls
 pub mod Rooms
 pub mod Placing

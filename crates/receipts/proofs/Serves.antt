@@ -2,7 +2,7 @@
 use mathlib.Core.Path.{_≡_, refl, sym, ap, ap₂, _∙_, subst}
 use mathlib.Core.Bool.{true, false}
 use mathlib.Core.List.{List, []}
-use Prim.Native.Nat.{ℕ, _+_, _*_, _-_, _^_, _<_, _≤_}
+use Prim.Native.Nat.{ℕ, _+_, _-_, _^_, _<_, _≤_}
 use native.Mathlib.Omega.{arith}
 use lib.ListN.{length, take, drop, length-take, length-drop, drop-of-length-le}
 use lib.Seq.{drop-drop}
@@ -15,6 +15,7 @@ use Rattle.receipts.specs.Serving.{Amid, lineSize, nextNumber, receiptTh
 use Rattle.receipts.specs.Contracts.{PartTaken}
 use Rattle.receipts.proofs.Turns.{Ends, RunsOut, turn-ends, turn-runs-out}
 use Rattle.receipts.proofs.Sizes.{receipt-length}
+use Rattle.receipts.proofs.Bounds.{room}
 
 -- What is left to take gives, from here, what the whole gives: the receipts are written up to here.
 pub record Left (m : Amid) (out : List ℕ) (written : ℕ) (whole : Amid) (out₀ : List ℕ) : Type 0 where
@@ -22,10 +23,6 @@ pub record Left (m : Amid) (out : List ℕ) (written : ℕ) (whole : Amid) (out�
   pub line : m .line ≡ whole .line
   pub held : m .held ≡ whole .held
   pub writing : Writing (m .receipts) out written (whole .receipts) out₀ 0
-
--- The room that n bytes of a part need, with so many bytes of a line held.
-abbrev pub room : (n bytes : ℕ) → ℕ
-room n bytes = n * receiptSize 0 + 8 * (n + bytes)
 
 -- Amid the loop: `whole` is what the part gives, and there is room for what is left.
 pub record Serves (part out₀ : List ℕ) (whole : Amid) (line out : List ℕ) (at k h written : ℕ) : Type 0 where

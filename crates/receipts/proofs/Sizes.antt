@@ -1,57 +1,32 @@
--- The sizes of receipts (01, 'The receipt program'): a word of n letters has at most 2n + 1 carets, its length is at most
--- 8n + 4 and its record has at most 6 + 4n bytes; a number below 2^64 has at most 20 digits. Assumes nothing.
+-- The bytes of a receipt (01, 'The receipt program'): those of its fields and one behind each. A number below 2^64 has
+-- at most 20 digits, and the record of a word of n letters at most 6 + 4n bytes. Assumes nothing.
 use mathlib.Core.Path.{_≡_, refl, sym, subst}
 use mathlib.Core.List.{List, [], _∷_}
-use Prim.Native.Nat.{ℕ, _+_, _*_, _^_, _<_, _≤_}
+use Prim.Native.Nat.{ℕ, _+_, _^_, _<_, _≤_}
 use native.Mathlib.Decide.{decLt}
 use native.Mathlib.Omega.{arith}
 use borrow.Author.Tests.{le-ltb}
 use lib.ListN.{length, length-append}
 use Rattle.group.specs.Letters.{Word}
 use Rattle.lines.specs.Lines.{lineFeed}
-use Rattle.group.specs.Forms.{aSide, Form, exponents}
 use Rattle.group.specs.Limits.{limit}
 use Rattle.group.specs.Products.{formOf}
 use Rattle.group.specs.Bytes.{Reading, isWord, notLetter, readWord}
 use Rattle.group.proofs.Bytes.{not-letter, read-length}
-use Rattle.group.proofs.Sizes.{form-sum, form-levels}
+use Rattle.group.proofs.Sizes.{form-sum}
 use Rattle.refusals.specs.Outcomes.{Outcome, refused}
 use Rattle.records.specs.Format.{encode}
 use Rattle.records.proofs.Lengths.{encode-size}
-use Rattle.trees.specs.Pairs.{caretsOf, minusTree, plusTree}
-use Rattle.trees.proofs.Built.{tree-carets}
-use Rattle.trees.proofs.Pairs.{carets-limit}
-use Rattle.lengths.specs.Kinds.{Kind, kinds}
-use Rattle.lengths.specs.Weights.{weights, formLength}
-use Rattle.lengths.proofs.Weights.{weight-most}
-use Rattle.lengths.proofs.CaretKinds.{kinds-numbered}
+use Rattle.trees.specs.Pairs.{caretsOf}
+use Rattle.lengths.specs.Weights.{formLength}
 use Rattle.forest.specs.Judging.{judgedReading}
 use Rattle.receipts.specs.Text.{ascii, decimal, hexOf}
 use Rattle.receipts.specs.Receipts.{row, formReceipt, refusalReceipt, lineRead, receiptBy, receiptOf}
 use Rattle.receipts.specs.Serving.{receiptSize}
 use Rattle.receipts.proofs.Decimals.{decimal-length}
 use Rattle.receipts.proofs.Hex.{hex-length}
+use Rattle.receipts.proofs.WordSizes.{length-most, carets-most}
 use Rattle.receipts.proofs.Lines.{read-long, read-short}
-
--- A caret weighs at most 4.
-weights-most : (xs ys : List Kind) → weights xs ys ≤ 4 * length xs
-weights-most [] ys = omega arith
-weights-most (x ∷ xs) [] = omega arith
-weights-most (x ∷ xs) (y ∷ ys) = omega (arith, weight-most x y, weights-most xs ys)
-
--- The length is at most four times the number of carets.
-length-most : (f : Form) → formLength f ≤ 4 * caretsOf f
-length-most f =
-    omega (
-      arith,
-      weights-most (kinds (minusTree f)) (kinds (plusTree f)),
-      kinds-numbered (minusTree f),
-      tree-carets (caretsOf f) (exponents aSide f) (omega arith),
-    )
-
--- The carets of a word.
-carets-most : (w : Word) → caretsOf (formOf w) ≤ 2 * length w + 1
-carets-most w = carets-limit (length w) (formOf w) (form-levels w) (form-sum w)
 
 -- The bytes of five fields in a row, and of four.
 five-length : (a b c d e : List ℕ)

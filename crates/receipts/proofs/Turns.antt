@@ -10,8 +10,8 @@ use lib.ListN.{length, take, drop}
 use Rattle.lines.specs.Lines.{lineFeed}
 use Rattle.lines.specs.Feeding.{keptLine, keptCount, Took, took, TookLine}
 use Rattle.lines.specs.declared.Fed.{Fed}
-use Rattle.lines.proofs.Feeding.{keep-length}
-use Rattle.lines.proofs.Taking.{took-end, took-more, keep-size}
+use Rattle.lines.proofs.Feeding.{keep-length, took-end, took-more}
+use Rattle.lines.proofs.Holding.{keep-size}
 use Rattle.receipts.specs.Receipts.{receiptOf}
 use Rattle.receipts.specs.Serving.{nextNumber, receiptThen, served}
 use Rattle.receipts.proofs.Parts.{served-end, served-more}

@@ -7,6 +7,7 @@ use lib.Seq.{length-take-le}
 use borrow.Author.Needs.{needs}
 use Rattle.lists.proofs.Writes.{wrote-same}
 use Rattle.group.specs.Limits.{limit}
+use Rattle.records.specs.Format.{bufferSize}
 use Rattle.receipts.proofs.LineReceipts.{own-long, receipt-refused, letters-within, record-within, receipt-row}
 use Rattle.receipts.proofs.receipt.put_receipt.Statement.{statement}
 use Rattle.receipts.proofs.receipt.put_receipt.Tie as tie
@@ -35,16 +36,27 @@ enum-known-written-2 c = search needs
 add-entries : tie.Need-add-entries
 add-entries c = search needs
 
+-- The call that read the line, seen from where its record is at hand.
+abbrev call : tie.After-written2 → tie.After-word-to-record
+call c = c .before .before .before .before .before
+
+abbrev start : tie.After-word-to-record → tie.Start
+start c = c .before .before .before .before .before .before
+
 -- The line is a word, within the limit.
-few : (c : tie.After-written2) → length (c .before .before .before .before .before .before .before .before .before .before .before .args .line .now) ≤ limit
+few : (c : tie.After-written2) → length (start (call c) .args .line .now) ≤ limit
 few c =
-    letters-within own-long (c .before .before .before .before .before .word-to-record .ensures) (c .written2 .given .0 .0)
-    (c .written2 .given .1)
+    letters-within own-long (call c .word-to-record .ensures) (c .written2 .given .0 .0) (c .written2 .given .1)
+
+-- Its record is no longer than its number of letters asks for.
+short : (c : tie.After-written2) → c .written2 .given .0 .0 ≤ bufferSize (length (start (call c) .args .line .now))
+short c =
+    record-within own-long (call c .word-to-record .ensures) (c .written2 .given .0 .0) (c .written2 .given .1)
 
 array-share-prefix-b : tie.Need-array-share-prefix-b
 array-share-prefix-b c =
     let known = c .before in
-    omega (arith, few known, known .before .before .before .before .before .word-to-record .kept)
+    omega (arith, few known, call known .word-to-record .kept)
 
 slice-aggregate-put-tables : tie.Need-slice-aggregate-put-tables
 slice-aggregate-put-tables c = sym (length-take-le _ _ (array-share-prefix-b (c .before)))
@@ -52,7 +64,7 @@ slice-aggregate-put-tables c = sym (length-take-le _ _ (array-share-prefix-b (c 
 array-share-prefix-a : tie.Need-array-share-prefix-a
 array-share-prefix-a c =
     let known = c .before .before in
-    omega (arith, few known, known .before .before .before .before .before .word-to-record .kept)
+    omega (arith, few known, call known .word-to-record .kept)
 
 slice-aggregate-put-tables-2 : tie.Need-slice-aggregate-put-tables-2
 slice-aggregate-put-tables-2 c = sym (length-take-le _ _ (array-share-prefix-a (c .before)))
@@ -60,14 +72,7 @@ slice-aggregate-put-tables-2 c = sym (length-take-le _ _ (array-share-prefix-a (
 array-share-prefix-record : tie.Need-array-share-prefix-record
 array-share-prefix-record c =
     let known = c .before .before .before in
-    let call = known .before .before .before .before .before in
-    let read = call .word-to-record .ensures in
-    omega (
-      arith,
-      few known,
-      record-within own-long read (known .written2 .given .0 .0) (known .written2 .given .1),
-      call .word-to-record .kept,
-    )
+    omega (arith, few known, short known, call known .word-to-record .kept)
 
 slice-aggregate-put-tables-3 : tie.Need-slice-aggregate-put-tables-3
 slice-aggregate-put-tables-3 c = sym (length-take-le _ _ (array-share-prefix-record (c .before)))
@@ -75,14 +80,11 @@ slice-aggregate-put-tables-3 c = sym (length-take-le _ _ (array-share-prefix-rec
 put-tables-requires : tie.Need-put-tables-requires
 put-tables-requires c κs =
     let known = c .before .before .before .before .before in
-    let call = known .before .before .before .before .before in
-    let read = call .word-to-record .ensures in
-    let n = known .written2 .given .0 .0 in
     omega (
       arith,
-      length-take n (call .word-to-record .last .1 .1 .1 .0),
-      record-within own-long read n (known .written2 .given .1),
-      call .before .before .before .before .before .before .pre,
+      length-take (known .written2 .given .0 .0) (call known .word-to-record .last .1 .1 .1 .0),
+      short known,
+      start (call known) .pre,
     )
 
 same-length : tie.Need-same-length
@@ -92,10 +94,9 @@ returns : tie.Need-returns
 returns c =
     let put = c .before .before in
     let known = put .before .before .before in
-    let call = known .before .before .before .before .before in
-    let x = call .before .before .before .before .before .before .args in
+    let read = known .before .before .before .before .before in
     wrote-same
-    (receipt-refused own-long (call .word-to-record .ensures) (known .written .given .0 .0) (x .number)
+    (receipt-refused own-long (read .word-to-record .ensures) (known .written .given .0 .0) (start read .args .number)
     (known .written .given .1))
     (put .put-refusal .ensures)
 
@@ -106,11 +107,10 @@ returns-2 : tie.Need-returns-2
 returns-2 c =
     let put = c .before .before in
     let known = put .before .before .before .before .before .before in
-    let call = known .before .before .before .before .before in
-    let x = call .before .before .before .before .before .before .args in
+    let read = call known .word-to-record .ensures in
     wrote-same
-    (receipt-row own-long (call .word-to-record .ensures) (known .written2 .given .0 .0) (known .written2 .given .1)
-    (x .number))
+    (receipt-row own-long read (known .written2 .given .0 .0) (known .written2 .given .1)
+    (start (call known) .args .number))
     (put .put-tables .ensures)
 
 pub put-receipt-spec : {M : Type 1} → statement M
