@@ -5,15 +5,18 @@ use mathlib.Core.Logic.{_⊎_, inl, inr}
 use Prim.Native.Nat.{ℕ, _+_, _^_, _<_}
 use native.Mathlib.Omega.{arith}
 use lib.ListN.{length}
-use Rattle.lines.specs.Lines.{lineFeed, linesOf, joinLines}
+use Rattle.lines.specs.Lines.{lineFeed, linesOf, joinLines, wholeOf}
 use Rattle.lines.proofs.Lines.{Unended, lines-no-feed, lines-join}
+use Rattle.lines.proofs.Meeting.{meet-lines}
 use Rattle.receipts.specs.Serving.{Amid, lineSize, served}
 use Rattle.receipts.specs.declared.Served.{Served}
 use Rattle.receipts.proofs.Parts.{served-append}
+use Rattle.receipts.proofs.Meets.{serve-same-line, serve-met-lines}
 use Rattle.receipts.proofs.Lines.{receipt-cut, closed, closed-then, served-lines}
 use Rattle.receipts.proofs.Bounds.{served-bounds}
 use Rattle.receipts.proofs.Calls.{placed-front, finish-front, serve-front}
-use Rattle.claims.specs.Receipts.{LinesOfBytes, CutKeepsReceipt, ServeCall, Run, wholeOf, ReceiptsOfInput}
+use Rattle.claims.specs.Receipts.{LinesOfBytes, LinesInParts, ServesMetLines, CutKeepsReceipt}
+use Rattle.claims.specs.Receipts.{ServeCall, Run, ReceiptsOfInput}
 
 -- The two parts of the claim on lines.
 pub lines-of-bytes : LinesOfBytes
@@ -30,6 +33,15 @@ lines-of-bytes = record {
     go s (inr h) = inr (h .0 .last, h .0 .front, h .0 .other, h .0 .same, h .1)
 
 -- By what a line is read as.
+pub lines-in-parts : LinesInParts
+lines-in-parts = meet-lines
+
+pub serves-met-lines : ServesMetLines
+serves-met-lines = record {
+  receipts = serve-met-lines;
+  leaves = λ s k line held. (serve-same-line s k line held .line, serve-same-line s k line held .held);
+}
+
 pub cut-keeps-receipt : CutKeepsReceipt
 cut-keeps-receipt = receipt-cut
 

@@ -1,21 +1,25 @@
 -- The receipt program (01, 'The receipt program'), over the contracts of its calls; proofs/Receipts.antt has the
 -- proofs, under the same names in small letters with hyphens. What the claims speak of, and where it is defined:
---     linesOf s            the lines of the bytes s; joinLines, lineFeed                        lines, Lines
+--     linesOf s            the lines of the bytes s; joinLines, lineFeed, cutTo, wholeOf        lines, Lines
+--     met, metIn           the lines that are met in a part, in the parts of an input           lines, Feeding
 --     receiptOf k line     the receipt of line k; receiptsFrom, header, outputOf                receipts, Receipts
+--     served s k line held what becomes of a part: its receipts, and what is kept               receipts, Serving
 --     Begun, ServedPart, Finished   the contracts of begin, serve and finish                    receipts, Contracts
 --     servingOf, writtenOf the answers as accepted or refused              receipts, Contracts; refusals, Outcomes
 -- Assumes nothing.
 use mathlib.Core.Path.{_≡_}
 use mathlib.Core.List.{List, [], _∷_, _++_}
 use mathlib.Core.Logic.{_⊎_}
-use Prim.Native.Nat.{ℕ, _+_, _<_, _^_}
+use Prim.Native.Nat.{ℕ, _+_, _<_, _≤_, _^_}
 use lib.ListN.{length, take}
 use Rattle.lists.specs.Entries.{At}
 use Rattle.group.specs.Limits.{limit}
 use Rattle.refusals.specs.Outcomes.{accepted, writtenOf}
 use Rattle.refusals.specs.declared.Written.{Written}
-use Rattle.lines.specs.Lines.{lineFeed, linesOf, joinLines}
-use Rattle.receipts.specs.Receipts.{receiptOf, outputOf}
+use Rattle.lines.specs.Lines.{lineFeed, linesOf, joinLines, cutTo, wholeOf}
+use Rattle.lines.specs.Feeding.{met, metIn}
+use Rattle.receipts.specs.Receipts.{receiptOf, receiptsFrom, outputOf}
+use Rattle.receipts.specs.Serving.{served}
 use Rattle.receipts.specs.Contracts.{Begun, ServedPart, Finished, servingOf}
 use Rattle.receipts.specs.declared.Served.{Served}
 use Rattle.receipts.specs.declared.Serving.{Serving}
@@ -27,6 +31,22 @@ pub record LinesOfBytes : Type 0 where
   pub joined : (s : List ℕ) → (joinLines (linesOf s) ≡ s)
       ⊎ ((x : ℕ) × (r : List ℕ) × (x ≡ lineFeed → ⊥) × (s ≡ r ++ (x ∷ []))
       × (joinLines (linesOf s) ≡ s ++ (lineFeed ∷ [])))
+
+-- However an input is parted: the lines that are met in its parts, each part from what the one before left, are those
+-- of the whole, each cut to the size of the line buffer.
+abbrev pub LinesInParts : Type 0
+LinesInParts =
+    (parts : List (List ℕ)) (line : List ℕ) → 0 < length line
+    → metIn parts line 0 ≡ cutTo (length line) (linesOf (wholeOf parts))
+
+-- What `serve` writes of a part is the receipts of the lines that are met in it, where no number wraps, and it leaves
+-- the line buffer and the count as they are left there.
+pub record ServesMetLines : Type 0 where
+  pub receipts : (s : List ℕ) (number : ℕ) (line : List ℕ) (held : ℕ) → number + length s ≤ 2 ^ 64
+      → served s number line held .receipts ≡ receiptsFrom number (met s line held .lines)
+  pub leaves : (s : List ℕ) (number : ℕ) (line : List ℕ) (held : ℕ)
+      → (served s number line held .line ≡ met s line held .line)
+      × (served s number line held .held ≡ met s line held .held)
 
 -- A line cut to one byte more than the limit has the receipt of the whole line.
 abbrev pub CutKeepsReceipt : Type 0
@@ -60,11 +80,6 @@ Run (part ∷ parts) number held line bytes =
     (s : Served) × (line′ : List ℕ) × (first : List ℕ) × (rest : List ℕ)
     × ServeCall part number held line s line′ first × Run parts (s .number) (s .held) line′ rest
     × (bytes ≡ first ++ rest)
-
--- The parts of an input, one behind another.
-abbrev pub wholeOf : List (List ℕ) → List ℕ
-wholeOf [] = []
-wholeOf (part ∷ parts) = part ++ wholeOf parts
 
 -- However an input of fewer than 2^64 bytes is parted, and whatever the buffers held: the header and what the calls of
 -- a run write are the output for the whole input.

@@ -1,14 +1,15 @@
--- A line that is kept in a buffer, byte by byte: the first bytes, as many as there is room for, are held. A line is thus
--- cut to the size of the buffer, and a line of any length needs no more memory.
---     Kept   the buffer and how many bytes of the line are held        Took   what `feed` leaves of a part of an input
+-- A line that is kept in a buffer, byte by byte (01, 'The receipt program'): the first bytes, as many as there is room
+-- for, are held. A line is thus cut to the size of the buffer, and a line of any length needs no more memory.
+--     took s i line held   what `feed` leaves of a part of an input
+--     met s line held      the lines that end in a part; metIn: in the parts of an input, with an unended last line
 -- Assumes nothing.
 use mathlib.Core.Path.{_≡_}
 use mathlib.Core.Bool.{Bool, true, false, cond}
-use mathlib.Core.List.{List, [], _∷_}
+use mathlib.Core.List.{List, [], _∷_, _++_}
 use Prim.Native.Nat.{ℕ, _+_}
-use lib.ListN.{length, set}
+use lib.ListN.{length, set, take}
 use lib.Dec.{eqb, ltb}
-use Rattle.lines.specs.Lines.{lineFeed}
+use Rattle.lines.specs.Lines.{lineFeed, lastLine}
 use Rattle.lines.specs.declared.Fed.{Fed}
 
 -- The buffer with one more byte of the line, where there is room.
@@ -35,3 +36,26 @@ took (x ∷ s) i line held =
 pub record TookLine (s : List ℕ) (i : ℕ) (line : List ℕ) (held : ℕ) (line′ : List ℕ) (r : Fed) : Type 0 where
   pub leaves : line′ ≡ took s i line held .line
   pub result : r ≡ took s i line held .fed
+
+-- The lines that ended, as they were held, and behind them the buffer and the count of the line that has begun.
+pub record Met : Type 0 where
+  pub lines : List (List ℕ)
+  pub line : List ℕ
+  pub held : ℕ
+
+-- A line in front of the others.
+abbrev pub lineThen : List ℕ → Met → Met
+lineThen l m = record { lines = l ∷ m .lines; line = m .line; held = m .held }
+
+-- The bytes are taken: at a line feed the bytes that are held are a line, any other byte is kept.
+unfoldable pub met : (s line : List ℕ) (held : ℕ) → Met
+met [] line held = record { lines = []; line = line; held = held }
+met (x ∷ s) line held =
+    cond (eqb x lineFeed) (lineThen (take held line) (met s line 0))
+    (met s (keptLine line held x) (keptCount line held))
+
+-- The lines that are met in the parts of an input, each part from what the one before left, and the unended last line.
+abbrev pub metIn : (parts : List (List ℕ)) (line : List ℕ) (held : ℕ) → List (List ℕ)
+metIn [] line held = lastLine (take held line)
+metIn (part ∷ parts) line held =
+    met part line held .lines ++ metIn parts (met part line held .line) (met part line held .held)

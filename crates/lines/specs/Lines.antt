@@ -1,6 +1,7 @@
--- The lines of bytes (01, 'The receipt program'): each line is ended by byte 0A hex; an unended last line counts, unless
--- it is empty; no bytes are no lines.
+-- The lines of bytes (01, 'The receipt program'): each line is ended by byte 0A hex; an unended last line counts,
+-- unless it is empty; no bytes are no lines.
 --     linesOf s   the lines of the bytes s          cutTo m ls   the lines, each cut to its first m bytes
+--     wholeOf ps  the parts of an input, one behind another
 -- Assumes nothing.
 use mathlib.Core.Bool.{cond}
 use mathlib.Core.List.{List, [], _∷_, _++_}
@@ -35,3 +36,8 @@ cutTo m (l ∷ ls) = take m l ∷ cutTo m ls
 abbrev pub joinLines : List (List ℕ) → List ℕ
 joinLines [] = []
 joinLines (l ∷ ls) = l ++ (lineFeed ∷ joinLines ls)
+
+-- The parts of an input, one behind another.
+abbrev pub wholeOf : List (List ℕ) → List ℕ
+wholeOf [] = []
+wholeOf (part ∷ parts) = part ++ wholeOf parts

@@ -13,6 +13,7 @@ pub mod LineReceipts
 pub mod Parts
 pub mod Turns
 pub mod Lines
+pub mod Meets
 -- the calls: how many bytes a receipt and the receipts of a part have, what the calls leave, their steps and answers
 pub mod WordSizes
 pub mod Sizes

@@ -57,7 +57,7 @@ pub closed-then : (r : List ℕ) (m : Amid) → closed (receiptThen r m) ≡ r +
 closed-then r m = append-assoc r (m .receipts) (receiptsFrom (m .number) (lastLine (take (m .held) (m .line))))
 
 -- A number below 2^64 - 1 has its successor.
-next-number : (k : ℕ) → k + 1 < 2 ^ 64 → nextNumber k ≡ suc k
+pub next-number : (k : ℕ) → k + 1 < 2 ^ 64 → nextNumber k ≡ suc k
 next-number k h = omega arith
 
 -- The buffer holds the bytes of a line.

@@ -1,5 +1,5 @@
-// The receipts of an input that comes in parts: a header, then a line for each line of the input. A program reads a part,
-// calls, and writes what stands at the front of the output buffer.
+// The receipts of an input that comes in parts: a header, then a line for each line of the input. A program reads a
+// part, calls, and writes what stands at the front of the output buffer.
 ghost use mathlib.Core.Path.{_≡_};
 ghost use mathlib.Core.Bool.{not};
 ghost use Prim.Native.Nat.{_≤_};
@@ -96,8 +96,8 @@ fn serve_lines(
     }
 }
 
-// A part of the input, from the number of the line that has begun and the bytes of it that are held: the receipts of the
-// lines that end in the part, at the front of the buffer.
+// A part of the input, from the number of the line that has begun and the bytes of it that are held: the receipts of
+// the lines that end in the part, at the front of the buffer.
 pub fn serve(
     part: &[u8],
     number: u64,

@@ -1,5 +1,5 @@
-// The receipts of whole inputs, each parted in several ways, run on the cases of standard input: one row a case, with the
-// bytes of the output and how many ways were right.
+// The receipts of whole inputs, each parted in several ways, run on the cases of standard input: one row a case, with
+// the bytes of the output and how many ways were right.
 // A case is `NAME | INPUT => OUTPUT`, both as bytes in hexadecimal, or a heading, `# ..`.
 use cases::fields;
 use cases::numbers;

@@ -1,3 +1,5 @@
+-- `feed` meets its contract: what is left of the part gives from here what the whole gives from the start. Assumes
+-- nothing.
 use Prim.Native.Nat.{_-_}
 use native.Mathlib.Omega.{arith}
 use lib.ListN.{length}

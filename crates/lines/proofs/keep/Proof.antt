@@ -1,3 +1,4 @@
+-- `keep` meets its contract. Assumes nothing.
 use borrow.Author.Needs.{needs}
 use Rattle.lines.proofs.Feeding.{keep-inside, keep-outside}
 use Rattle.lines.proofs.keep.Statement.{statement}
