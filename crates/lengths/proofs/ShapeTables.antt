@@ -73,14 +73,14 @@ module _ (buffer : List ℕ) (n : ℕ) (room : shapeSize n ≤ length buffer)
       ∙ classes-read (shapeClasses bytes)
 
 -- The sum over the tables of a pair is that over its shapes.
-pub shapes-sum : {minus plus : List ℕ} {n : ℕ} → PairShaped minus plus n → (entry : List ℕ) → n ≤ length entry
-    → {minus′ plus′ : List ℕ} {r : ℕ}
-    → minus′ ≡ sets entry 0 (classBytes (shapeClasses (take (shapeSize n) minus)))
-    → plus′ ≡ sets entry 0 (classBytes (shapeClasses (take (shapeSize n) plus)))
-    → r ≡ weights (kindsOf (classesOf (take n minus′))) (kindsOf (classesOf (take n plus′)))
+pub shapes-sum : {minus plus : List ℕ} {n : ℕ} → PairShaped minus plus n → (m p : List ℕ) → n ≤ length m → n ≤ length p
+    → {m′ p′ : List ℕ} {r : ℕ}
+    → m′ ≡ sets m 0 (classBytes (shapeClasses (take (shapeSize n) minus)))
+    → p′ ≡ sets p 0 (classBytes (shapeClasses (take (shapeSize n) plus)))
+    → r ≡ weights (kindsOf (classesOf (take n m′))) (kindsOf (classesOf (take n p′)))
     → r ≡ weights (kindsOf (shapeClasses (take (shapeSize n) minus))) (kindsOf (shapeClasses (take (shapeSize n) plus)))
-shapes-sum {minus} {plus} {n} h entry room {minus′} {plus′} em ep e =
+shapes-sum {minus} {plus} {n} h m p hm hp {m′} {p′} em ep e =
     e
     ∙ ap₂ (λ (cs ds : List Class). weights (kindsOf cs) (kindsOf ds))
-    (table-classes minus n (h .minus-room) (h .minus-exact) entry minus′ room em)
-    (table-classes plus n (h .plus-room) (h .plus-exact) entry plus′ room ep)
+    (table-classes minus n (h .minus-room) (h .minus-exact) m m′ hm em)
+    (table-classes plus n (h .plus-room) (h .plus-exact) p p′ hp ep)

@@ -2,13 +2,20 @@
 --     classByte      a class as it is kept in a table        kindNamed   the kind that a case of `CaretKind` names
 --     table          Fordham's table as the code has it
 --     Readable       what is left of a shape, and room for the classes of the carets to come
+--     lengthWithin   the length of a pair that has room in arrays of some size
 -- Assumes nothing.
+use mathlib.Core.Path.{_≡_}
+use mathlib.Core.Bool.{cond}
 use mathlib.Core.List.{List, [], _∷_}
 use Prim.Native.Nat.{ℕ, zero, suc, _+_, _≤_, _<_}
 use lib.ListN.{length, take, drop, getD}
+use lib.Dec.{ltb}
 use Rattle.lists.specs.Writes.{Writing}
+use Rattle.refusals.specs.Outcomes.{Outcome, accepted, refused, then}
+use Rattle.trees.specs.Building.{treeOf}
 use Rattle.trees.specs.Pairs.{maxCarets}
 use Rattle.trees.specs.Shapes.{shapeSize, Exact}
+use Rattle.trees.specs.Writing.{tableCarets}
 use Rattle.lengths.specs.declared.table.CaretKind.{CaretKind}
 use Rattle.lengths.specs.declared.table.CaretKind.the-variants as Named
 use Rattle.lengths.specs.declared.reader.Amid.{Amid}
@@ -16,6 +23,7 @@ use Rattle.lengths.specs.declared.reader.Place.{Place}
 use Rattle.lengths.specs.declared.sums.Behind.{Behind}
 use Rattle.lengths.specs.Classes.{Class, onLeft, onRight, insideLeaf, insideCaret}
 use Rattle.lengths.specs.Kinds.{Kind, LL, RI, RN, R0, I0, IR, inside, either}
+use Rattle.lengths.specs.Weights.{pairLength}
 use Rattle.lengths.specs.Reading.{classesFrom, nextOnSide, pendingClasses}
 
 -- The byte of a class, and the class of a byte.
@@ -147,3 +155,18 @@ pub record PairShaped (minus plus : List ℕ) (n : ℕ) : Type 0 where
   pub plus-room : shapeSize n ≤ length plus
   pub minus-exact : Exact (take (shapeSize n) minus) 1
   pub plus-exact : Exact (take (shapeSize n) plus) 1
+
+-- Pairs of at most so many carets are weighed in short arrays.
+abbrev pub smallCarets : ℕ
+smallCarets = 64
+
+-- The length of the smallest pair with the exponents of two tables; unfit if it has more than m carets.
+abbrev pub lengthWithin : (m : ℕ) (b a : List ℕ) → Outcome ℕ
+lengthWithin m b a =
+    then (tableCarets b a) (λ n. cond (ltb m n) (refused 0 0) (accepted (pairLength (treeOf n a) (treeOf n b))))
+
+-- Buffers for the shapes and tables for the classes of trees of as many carets as a table has entries.
+pub record Rooms (t-minus t-plus minus plus : List ℕ) : Type 0 where
+  pub minus-room : length t-minus ≡ shapeSize (length minus)
+  pub plus-room : length t-plus ≡ shapeSize (length minus)
+  pub same : length plus ≡ length minus

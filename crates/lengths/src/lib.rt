@@ -1,6 +1,9 @@
 // The length of a form: Fordham's sum over the carets of its smallest tree pair.
 ghost use mathlib.Core.Path.{_≡_};
+ghost use lib.ListN.{length};
+ghost use Rattle.trees.specs.Pairs.{maxCarets};
 ghost use Rattle.lengths.specs.Contracts.{lengthOf, tableLength};
+ghost use Rattle.lengths.specs.Steps.{smallCarets, lengthWithin, Rooms};
 use trees::MAX_CARETS;
 use trees::Pairing;
 
@@ -11,21 +14,71 @@ mod table;
 // The bytes of the shape of the largest tree.
 const MAX_SHAPE: usize = 2 * MAX_CARETS + 1;
 
+// A pair of at most so many carets is weighed in short arrays: to clear long ones takes longer than to weigh it. They
+// are tried where the first table has at most so many entries: to count the carets of longer tables in vain takes longer.
+const SMALL: usize = 64;
+
+// The bytes of the shape of a tree of SMALL carets.
+const SMALL_SHAPE: usize = 2 * SMALL + 1;
+
 // The answer of `pair_length`: the length, or tables that no form within the limits has.
 pub enum Length {
     Letters(usize),
     Unfit,
 }
 
+// The length of the smallest tree pair with the exponents of two tables; unfit if it has more carets than the tables of
+// classes have entries. The shapes and the classes are written into the four buffers, whatever they hold.
+fn length_in(
+    b: &[u16],
+    a: &[u16],
+    t_minus: &mut [u8],
+    t_plus: &mut [u8],
+    minus: &mut [u8],
+    plus: &mut [u8],
+) -> Length
+    requires { ⌜ Rooms (now «t_minus») (now «t_plus») (now minus) (now plus) ⌝ }
+    ensures { λ r. ⌜ lengthOf r ≡ lengthWithin (length (now (minus .entry))) (now (b .entry)) (now (a .entry)) ⌝ }
+{
+    let pairing = trees::write_pair(b, a, t_minus, t_plus);
+    let Pairing::Carets(n) = pairing else {
+        return Length::Unfit;
+    };
+    Length::Letters(sums::shapes_length(t_minus, t_plus, n, minus, plus))
+}
+
+// The length of a pair of at most SMALL carets; unfit if it has more.
+fn small_length(b: &[u16], a: &[u16]) -> Length
+    ensures { λ r. ⌜ lengthOf r ≡ lengthWithin smallCarets (now (b .entry)) (now (a .entry)) ⌝ }
+{
+    let mut t_minus = [0u8; SMALL_SHAPE];
+    let mut t_plus = [0u8; SMALL_SHAPE];
+    let mut minus = [0u8; SMALL];
+    let mut plus = [0u8; SMALL];
+    length_in(b, a, &mut t_minus, &mut t_plus, &mut minus, &mut plus)
+}
+
+// The length of a pair of at most MAX_CARETS carets.
+fn large_length(b: &[u16], a: &[u16]) -> Length
+    ensures { λ r. ⌜ lengthOf r ≡ lengthWithin maxCarets (now (b .entry)) (now (a .entry)) ⌝ }
+{
+    let mut t_minus = [0u8; MAX_SHAPE];
+    let mut t_plus = [0u8; MAX_SHAPE];
+    let mut minus = [0u8; MAX_CARETS];
+    let mut plus = [0u8; MAX_CARETS];
+    length_in(b, a, &mut t_minus, &mut t_plus, &mut minus, &mut plus)
+}
+
 // The length of the smallest tree pair with the exponents of two tables of at most MAX_CARETS entries each.
 pub fn pair_length(b: &[u16], a: &[u16]) -> Length
     ensures { λ r. ⌜ lengthOf r ≡ tableLength (now (b .entry)) (now (a .entry)) ⌝ }
 {
-    let mut t_minus = [0u8; MAX_SHAPE];
-    let mut t_plus = [0u8; MAX_SHAPE];
-    let pairing = trees::write_pair(b, a, &mut t_minus, &mut t_plus);
-    let Pairing::Carets(n) = pairing else {
-        return Length::Unfit;
+    if SMALL < b.len() {
+        return large_length(b, a);
+    }
+    let small = small_length(b, a);
+    let Length::Unfit = small else {
+        return small;
     };
-    Length::Letters(sums::shapes_length(&t_minus, &t_plus, n))
+    large_length(b, a)
 }

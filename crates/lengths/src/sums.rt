@@ -13,7 +13,6 @@ use crate::reader::read_classes;
 use crate::table::kind;
 use crate::table::weight;
 use refusals::CaretNumber;
-use trees::MAX_CARETS;
 
 // What is behind a caret: whether the next caret is interior, and whether some later one is.
 pub struct Behind {
@@ -77,15 +76,22 @@ fn sum_weights(minus: &[u8], plus: &[u8], n: usize) -> usize
     sum
 }
 
-// The length of the pair with n carets whose shapes stand at the front of two buffers.
-pub fn shapes_length(t_minus: &[u8], t_plus: &[u8], n: usize) -> usize
+// The length of the pair with n carets whose shapes stand at the front of two buffers; the classes of its carets are
+// written into two tables, whatever they hold.
+pub fn shapes_length(
+    t_minus: &[u8],
+    t_plus: &[u8],
+    n: usize,
+    minus: &mut [u8],
+    plus: &mut [u8],
+) -> usize
     requires { ⌜ PairShaped (now «t_minus») (now «t_plus») n ⌝ }
+    requires { ⌜ n ≤ length (now minus) ⌝ }
+    requires { ⌜ n ≤ length (now plus) ⌝ }
     ensures { λ r. ⌜ r ≡ weights (kindsOf (shapeClasses (take (shapeSize n) (now («t_minus» .entry)))))
         (kindsOf (shapeClasses (take (shapeSize n) (now («t_plus» .entry))))) ⌝ }
 {
-    let mut minus = [0u8; MAX_CARETS];
-    let mut plus = [0u8; MAX_CARETS];
-    read_classes(&t_minus[..2 * n + 1], &mut minus);
-    read_classes(&t_plus[..2 * n + 1], &mut plus);
-    sum_weights(&minus, &plus, n)
+    read_classes(&t_minus[..2 * n + 1], minus);
+    read_classes(&t_plus[..2 * n + 1], plus);
+    sum_weights(minus, plus, n)
 }

@@ -1,4 +1,4 @@
--- A line beside tables and a buffer that are long enough for every word within the limit: what it is read as.
+-- A line beside tables and a buffer that are long enough for it, if it is within the limit: what it is read as.
 -- Assumes nothing.
 use mathlib.Core.Path.{_≡_, refl}
 use mathlib.Core.Bool.{Bool, true, false, cond}
@@ -13,10 +13,12 @@ use Rattle.group.specs.Limits.{limit}
 use Rattle.refusals.specs.Outcomes.{accepted, refused, then}
 use Rattle.records.specs.Format.{bufferSize}
 use Rattle.forest.specs.Judging.{judgedReading}
-use Rattle.words.specs.Recording.{judgedRecord}
+use Rattle.words.specs.Recording.{Memory, judgedWith}
 use Rattle.receipts.specs.Receipts.{lineRead}
+use Rattle.receipts.specs.Steps.{LineRoom}
 
-module _ (n nb na nr : ℕ) (hb : suc limit ≤ nb) (ha : suc limit ≤ na) (hr : bufferSize limit ≤ nr) where
+module _ (n nb na nr : ℕ) (hb : n ≤ limit → suc n ≤ nb) (ha : n ≤ limit → suc n ≤ na)
+    (hr : n ≤ limit → bufferSize n ≤ nr) where
   -- By what the line's length and its bytes are.
   judged-same : (long : Bool) (r : Reading) → (long ≡ false → n ≤ limit)
       → then
@@ -28,15 +30,14 @@ module _ (n nb na nr : ℕ) (hb : suc limit ≤ nb) (ha : suc limit ≤ na) (hr 
   judged-same false (isWord w) h =
       let few : n ≤ limit = h refl in
       simp (
-        le-ltb nb (n + 1) (omega arith),
-        le-ltb na (n + 1) (omega arith),
-        le-ltb nr (bufferSize n) (omega arith),
+        le-ltb nb (n + 1) (omega (arith, hb few)),
+        le-ltb na (n + 1) (omega (arith, ha few)),
+        le-ltb nr (bufferSize n) (hr few),
         le-ltb (n + 1) (n + 1) (omega arith),
       )
 
 -- No table and no buffer is too short.
-pub line-judged : (line : List ℕ) (nb na nr : ℕ) → suc limit ≤ nb → suc limit ≤ na → bufferSize limit ≤ nr
-    → judgedRecord line nb na nr ≡ lineRead line
-line-judged line nb na nr hb ha hr =
-    judged-same (length line) nb na nr hb ha hr (ltb limit (length line)) (readWord line)
-    (λ e. ltb-false limit (length line) e)
+pub line-judged : {line : List ℕ} {m : Memory} → LineRoom line m → judgedWith line m ≡ lineRead line
+line-judged {line} {m} h =
+    judged-same (length line) (length (m .b)) (length (m .a)) (length (m .buffer)) (h .b-long) (h .a-long)
+    (h .buffer-long) (ltb limit (length line)) (readWord line) (λ e. ltb-false limit (length line) e)

@@ -1,9 +1,9 @@
 -- The receipt of a line from what the call `word_to_record` answers and leaves of it. Assumes nothing.
 use mathlib.Core.Path.{_≡_, sym, ap, ap₂, _∙_}
 use mathlib.Core.List.{List}
-use Prim.Native.Nat.{ℕ, suc, _+_, _≤_}
+use Prim.Native.Nat.{ℕ, _+_, _≤_}
 use native.Mathlib.Omega.{arith}
-use lib.ListN.{length, take, replicate, length-replicate}
+use lib.ListN.{length, take}
 use Rattle.lists.proofs.Writes.{sets-front}
 use Rattle.lists.proofs.Tables.{filled-front}
 use Rattle.group.specs.Letters.{Word}
@@ -23,32 +23,17 @@ use Rattle.records.proofs.Lengths.{encode-size}
 use Rattle.trees.specs.Pairs.{caretsOf}
 use Rattle.lengths.specs.Weights.{formLength}
 use Rattle.forest.specs.Filling.{tableAfter}
-use Rattle.words.specs.Recording.{recordOfWord, bufferAfter, Memory, memory, judgedWith, Recorded}
+use Rattle.words.specs.Recording.{recordOfWord, bufferAfter, Memory, judgedWith, Recorded}
 use Rattle.words.proofs.Judged.{RecordFit, accepted-record}
 use Rattle.receipts.specs.Receipts.{refusalReceipt, lineRead, receiptBy, receiptOf}
-use Rattle.receipts.specs.Steps.{valueIn, recordRow, tablesRow}
+use Rattle.receipts.specs.Steps.{valueIn, recordRow, tablesRow, LineRoom}
 use Rattle.receipts.proofs.LineReads.{line-judged}
 use Rattle.receipts.proofs.WordTables.{sideTable, table-carets, table-length}
 
--- Memory that is long enough for every word within the limit.
-pub record Long (m : Memory) : Type 0 where
-  pub b-long : suc limit ≤ length (m .b)
-  pub a-long : suc limit ≤ length (m .a)
-  pub buffer-long : bufferSize limit ≤ length (m .buffer)
-
--- The tables and the buffer of the receipt writer.
-pub own-long : Long (memory (replicate (suc limit) 0) (replicate (suc limit) 0) (replicate (bufferSize limit) 0))
-own-long = record {
-  b-long = omega (arith, length-replicate {A = ℕ} (suc limit) 0);
-  a-long = omega (arith, length-replicate {A = ℕ} (suc limit) 0);
-  buffer-long = omega (arith, length-replicate {A = ℕ} (bufferSize limit) 0);
-}
-
-module _ {line : List ℕ} {m m′ : Memory} {r : Written} (h : Long m) (c : Recorded line m m′ r) where
+module _ {line : List ℕ} {m m′ : Memory} {r : Written} (h : LineRoom line m) (c : Recorded line m m′ r) where
   -- What the call judges is what the line is read as.
   judged-line : judgedWith line m ≡ lineRead line
-  judged-line =
-      line-judged line (length (m .b)) (length (m .a)) (length (m .buffer)) (h .b-long) (h .a-long) (h .buffer-long)
+  judged-line = line-judged h
 
   -- The line is refused.
   pub receipt-refused : (q : Refusal) (number : ℕ) → r ≡ Refused q

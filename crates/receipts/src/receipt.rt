@@ -6,9 +6,10 @@ ghost use Rattle.lists.specs.Writes.{Wrote};
 ghost use Rattle.refusals.specs.Refusals.{numberOf, placeOf};
 ghost use Rattle.trees.specs.Writing.{pairingOf};
 ghost use Rattle.lengths.specs.Contracts.{lengthOf};
+ghost use Rattle.words.specs.Recording.{memory};
 ghost use Rattle.receipts.specs.Receipts.{receiptOf, refusalReceipt};
 ghost use Rattle.receipts.specs.Serving.{receiptSize};
-ghost use Rattle.receipts.specs.Steps.{valueIn, fourNumbers, recordRow, tablesRow};
+ghost use Rattle.receipts.specs.Steps.{valueIn, fourNumbers, recordRow, tablesRow, smallLetters, LineRoom};
 use crate::text;
 use lengths::Length;
 use records::BASE_SIZE;
@@ -19,6 +20,12 @@ use trees::Pairing;
 
 // The bytes of the longest record that a word has.
 const RECORD: usize = BASE_SIZE + 4 * LIMIT;
+
+// A line of at most so many letters is written from short tables: to clear long ones takes longer than all the rest.
+const SMALL: usize = 64;
+
+// The bytes of the longest record of a word of SMALL letters.
+const SMALL_RECORD: usize = BASE_SIZE + 4 * SMALL;
 
 // Line number, `refused`, number, place.
 fn put_refusal(number: u64, r: Refusal, out: &mut [u8], at: usize) -> usize
@@ -101,15 +108,21 @@ fn put_tables(
     )
 }
 
-// The receipt of a line.
-fn put_receipt(number: u64, line: &[u8], out: &mut [u8], at: usize) -> usize
+// The receipt of a line; the tables and the record of a word are written into lent memory, whatever it holds.
+fn put_in(
+    number: u64,
+    line: &[u8],
+    b: &mut [u16],
+    a: &mut [u16],
+    record: &mut [u8],
+    out: &mut [u8],
+    at: usize,
+) -> usize
+    requires { ⌜ LineRoom (now line) (memory (now b) (now a) (now «record»)) ⌝ }
     requires { ⌜ at + receiptSize (length (now line)) ≤ length (now out) ⌝ }
     ensures { λ r. ⌜ Wrote (receiptOf number (now (line .entry))) (now (out .entry)) at (now (out .exit)) r ⌝ }
 {
-    let mut b = [0u16; LIMIT + 1];
-    let mut a = [0u16; LIMIT + 1];
-    let mut record = [0u8; RECORD];
-    let written = words::word_to_record(line, &mut b, &mut a, &mut record);
+    let written = words::word_to_record(line, b, a, record);
     match written {
         Written::Refused(r) => put_refusal(number, r, out, at),
         Written::Bytes(n) => {
@@ -125,6 +138,40 @@ fn put_receipt(number: u64, line: &[u8], out: &mut [u8], at: usize) -> usize
             )
         }
     }
+}
+
+// The receipt of a line of at most SMALL letters.
+fn put_small(number: u64, line: &[u8], out: &mut [u8], at: usize) -> usize
+    requires { ⌜ length (now line) ≤ smallLetters ⌝ }
+    requires { ⌜ at + receiptSize (length (now line)) ≤ length (now out) ⌝ }
+    ensures { λ r. ⌜ Wrote (receiptOf number (now (line .entry))) (now (out .entry)) at (now (out .exit)) r ⌝ }
+{
+    let mut b = [0u16; SMALL + 1];
+    let mut a = [0u16; SMALL + 1];
+    let mut record = [0u8; SMALL_RECORD];
+    put_in(number, line, &mut b, &mut a, &mut record, out, at)
+}
+
+// The receipt of a line of any length.
+fn put_large(number: u64, line: &[u8], out: &mut [u8], at: usize) -> usize
+    requires { ⌜ at + receiptSize (length (now line)) ≤ length (now out) ⌝ }
+    ensures { λ r. ⌜ Wrote (receiptOf number (now (line .entry))) (now (out .entry)) at (now (out .exit)) r ⌝ }
+{
+    let mut b = [0u16; LIMIT + 1];
+    let mut a = [0u16; LIMIT + 1];
+    let mut record = [0u8; RECORD];
+    put_in(number, line, &mut b, &mut a, &mut record, out, at)
+}
+
+// The receipt of a line.
+fn put_receipt(number: u64, line: &[u8], out: &mut [u8], at: usize) -> usize
+    requires { ⌜ at + receiptSize (length (now line)) ≤ length (now out) ⌝ }
+    ensures { λ r. ⌜ Wrote (receiptOf number (now (line .entry))) (now (out .entry)) at (now (out .exit)) r ⌝ }
+{
+    if line.len() <= SMALL {
+        return put_small(number, line, out, at);
+    }
+    put_large(number, line, out, at)
 }
 
 // The receipt of the bytes of a line that are held in a buffer.

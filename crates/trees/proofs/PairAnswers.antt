@@ -159,13 +159,3 @@ module _ {b a : List ℕ} {n : ℕ} (c : Counts b a n) where
       let e : pairCarets b a (length m) (length p) ≡ accepted n =
       rw (c .accepts) (simp (le-ltb _ _ hm, le-ltb _ _ hp)) in
       record { result = sym e; t-minus = rw e em; t-plus = rw e ep }
-
--- Buffers for the largest tree are never too short.
-pub large-buffers : (b a : List ℕ) (m : ℕ) → shapeSize maxCarets ≤ m → pairCarets b a m m ≡ tableCarets b a
-large-buffers b a m h = go (tables-judged b a)
-  where
-    go : Judged b a → pairCarets b a m m ≡ tableCarets b a
-    go (unfit e) = rw e refl
-    go (fit c) =
-        let long : shapeSize (caretsOfSides b a) ≤ m = omega (arith, c .few) in
-        rw (c .accepts) (simp (le-ltb _ _ long))

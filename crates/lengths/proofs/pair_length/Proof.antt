@@ -1,51 +1,51 @@
--- `pair_length` meets its contract. Assumes nothing.
-use Prim.Native.Nat.{_≤_}
-use lib.Dec.{lit≤}
+-- `pair_length` meets its contract: a pair of few carets, or of any number. Assumes nothing.
+use mathlib.Core.Path.{_∙_}
 use borrow.Author.Needs.{needs}
-use Rattle.lengths.proofs.PairLengths.{not-written, pair-shaped, pair-summed}
+use Rattle.lengths.specs.Steps.{smallCarets}
+use Rattle.lengths.proofs.PairLengths.{within-length, within-largest}
 use Rattle.lengths.proofs.pair_length.Statement.{statement}
 use Rattle.lengths.proofs.pair_length.Tie as tie
 
-slice-aggregate-write-pair : tie.Need-slice-aggregate-write-pair
-slice-aggregate-write-pair c = search needs
-
-slice-aggregate-write-pair-2 : tie.Need-slice-aggregate-write-pair-2
-slice-aggregate-write-pair-2 c = search needs
-
-write-pair-requires : tie.Need-write-pair-requires
-write-pair-requires c κs = search needs
-
-enum-known-pairing : tie.Need-enum-known-pairing
-enum-known-pairing c = search needs
+large-length-requires : tie.Need-large-length-requires
+large-length-requires c κs = search needs
 
 returns : tie.Need-returns
-returns c = not-written (c .before .before .before .write-pair .ensures) (lit≤ tt) (c .match .keys2)
+returns c =
+    let x = c .before .before .before .before .args in
+    c .large-length .ensures ∙ within-largest (x .b .now) (x .a .now)
 
-slice-aggregate-shapes-length : tie.Need-slice-aggregate-shapes-length
-slice-aggregate-shapes-length c = search needs
+small-length-requires : tie.Need-small-length-requires
+small-length-requires c κs = search needs
 
-slice-aggregate-shapes-length-2 : tie.Need-slice-aggregate-shapes-length-2
-slice-aggregate-shapes-length-2 c = search needs
+enum-told : tie.Need-enum-told
+enum-told c = search needs
 
-shapes-length-requires : tie.Need-shapes-length-requires
-shapes-length-requires c κs = pair-shaped (c .before .before .before .before .before .before .before .write-pair
-    .ensures) (lit≤ tt) (c .before .before .before .pairing .given .1)
+enum-told-2 : tie.Need-enum-told-2
+enum-told-2 c = search needs
 
 returns-2 : tie.Need-returns-2
 returns-2 c =
-    pair-summed (c .before .before .before .before .before .before .before .before .write-pair .ensures) (lit≤ tt) (c
-    .before .before .before .before .pairing .given .1) (c .shapes-length .ensures)
+    let call = c .before .before in
+    let x = call .before .before .before .before .args in
+    within-length (x .b .now) (x .a .now) smallCarets (c .enum-told2 .given .1) (call .small-length .ensures)
+
+large-length-requires-2 : tie.Need-large-length-requires-2
+large-length-requires-2 c κs = search needs
+
+returns-3 : tie.Need-returns-3
+returns-3 c =
+    let x = c .before .before .before .before .before .before .before .args in
+    c .large-length2 .ensures ∙ within-largest (x .b .now) (x .a .now)
 
 pub pair-length-spec : {M : Type 1} → statement M
 pair-length-spec =
     tie.close
     (tie.spec
-    slice-aggregate-write-pair
-    slice-aggregate-write-pair-2
-    write-pair-requires
-    enum-known-pairing
+    large-length-requires
     returns
-    slice-aggregate-shapes-length
-    slice-aggregate-shapes-length-2
-    shapes-length-requires
-    returns-2)
+    small-length-requires
+    enum-told
+    enum-told-2
+    returns-2
+    large-length-requires-2
+    returns-3)

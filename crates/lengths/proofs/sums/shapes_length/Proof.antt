@@ -1,10 +1,7 @@
 -- `shapes_length` meets its contract: the classes of both shapes, then the sum. Assumes nothing.
 use mathlib.Core.Path.{sym}
-use native.Mathlib.Omega.{arith}
-use lib.ListN.{replicate}
 use lib.Seq.{length-take-le}
 use borrow.Author.Needs.{needs}
-use Rattle.trees.specs.Pairs.{maxCarets}
 use Rattle.lengths.proofs.ShapeTables.{shape-readable, shapes-sum}
 use Rattle.lengths.proofs.sums.shapes_length.Statement.{statement}
 use Rattle.lengths.proofs.sums.shapes_length.Tie as tie
@@ -16,15 +13,15 @@ add-read-classes : tie.Need-add-read-classes
 add-read-classes c = search needs
 
 slice-aggregate-read-classes : tie.Need-slice-aggregate-read-classes
-slice-aggregate-read-classes c = sym (length-take-le _ _ (c .before .before .before .pre .minus-room))
-
-slice-aggregate-read-classes-2 : tie.Need-slice-aggregate-read-classes-2
-slice-aggregate-read-classes-2 c = search needs
+slice-aggregate-read-classes c =
+    let entry = c .before .before .before .before .before in
+    sym (length-take-le _ _ (entry .pre .0 .minus-room))
 
 read-classes-requires : tie.Need-read-classes-requires
 read-classes-requires c κs =
-    let pre = c .before .before .before .before .pre in
-    shape-readable _ _ (pre .minus-room) (pre .minus-exact) (pre .few) (omega (arith, pre .few))
+    let entry = c .before .before .before .before .before .before in
+    let pair = entry .pre .0 in
+    shape-readable _ _ (pair .minus-room) (pair .minus-exact) (pair .few) (entry .pre .1 .0)
 
 mul-read-classes-2 : tie.Need-mul-read-classes-2
 mul-read-classes-2 c = search needs
@@ -32,34 +29,34 @@ mul-read-classes-2 c = search needs
 add-read-classes-2 : tie.Need-add-read-classes-2
 add-read-classes-2 c = search needs
 
-slice-aggregate-read-classes-3 : tie.Need-slice-aggregate-read-classes-3
-slice-aggregate-read-classes-3 c =
-    sym (length-take-le _ _ (c .before .before .before .before .before .before .before .pre .plus-room))
-
-slice-aggregate-read-classes-4 : tie.Need-slice-aggregate-read-classes-4
-slice-aggregate-read-classes-4 c = search needs
+slice-aggregate-read-classes-2 : tie.Need-slice-aggregate-read-classes-2
+slice-aggregate-read-classes-2 c =
+    let entry = c .before .before .before .before .before .before .before .before .before .before in
+    sym (length-take-le _ _ (entry .pre .0 .plus-room))
 
 read-classes-requires-2 : tie.Need-read-classes-requires-2
 read-classes-requires-2 c κs =
-    let pre = c .before .before .before .before .before .before .before .before .pre in
-    shape-readable _ _ (pre .plus-room) (pre .plus-exact) (pre .few) (omega (arith, pre .few))
-
-slice-aggregate-sum-weights : tie.Need-slice-aggregate-sum-weights
-slice-aggregate-sum-weights c = search needs
-
-slice-aggregate-sum-weights-2 : tie.Need-slice-aggregate-sum-weights-2
-slice-aggregate-sum-weights-2 c = search needs
+    let entry = c .before .before .before .before .before .before .before .before .before .before .before in
+    let pair = entry .pre .0 in
+    shape-readable _ _ (pair .plus-room) (pair .plus-exact) (pair .few) (entry .pre .1 .1)
 
 sum-weights-requires : tie.Need-sum-weights-requires
 sum-weights-requires c κs = search needs
 
+same-length : tie.Need-same-length
+same-length c = search needs
+
+same-length-2 : tie.Need-same-length-2
+same-length-2 c = search needs
+
 returns : tie.Need-returns
 returns c =
-    let second = c .before .before .before .before in
-    let first = second .before .before .before .before in
-    let pre = first .before .before .before .before .before .pre in
-    shapes-sum pre (replicate maxCarets 0) (omega (arith, pre .few)) (first .read-classes .ensures)
-    (second .read-classes2 .ensures) (c .sum-weights .ensures)
+    let second = c .before .before .before .before .before in
+    let first = second .before .before .before .before .before in
+    let entry = first .before .before .before .before .before .before .before in
+    shapes-sum (entry .pre .0) (entry .args .minus .now) (entry .args .plus .now) (entry .pre .1 .0) (entry .pre .1
+    .1)
+    (first .read-classes .ensures) (second .read-classes2 .ensures) (c .sum-weights .ensures)
 
 pub shapes-length-spec : {M : Type 1} → statement M
 shapes-length-spec =
@@ -68,14 +65,12 @@ shapes-length-spec =
     mul-read-classes
     add-read-classes
     slice-aggregate-read-classes
-    slice-aggregate-read-classes-2
     read-classes-requires
     mul-read-classes-2
     add-read-classes-2
-    slice-aggregate-read-classes-3
-    slice-aggregate-read-classes-4
+    slice-aggregate-read-classes-2
     read-classes-requires-2
-    slice-aggregate-sum-weights
-    slice-aggregate-sum-weights-2
     sum-weights-requires
+    same-length
+    same-length-2
     returns)

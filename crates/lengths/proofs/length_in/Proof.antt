@@ -1,0 +1,70 @@
+-- `length_in` meets its contract: the shapes of the pair, then the sum over them. Assumes nothing.
+use borrow.Author.Needs.{needs}
+use Rattle.lengths.proofs.PairLengths.{not-written, minus-within, plus-within, pair-shaped, pair-summed}
+use Rattle.lengths.proofs.length_in.Statement.{statement}
+use Rattle.lengths.proofs.length_in.Tie as tie
+
+write-pair-requires : tie.Need-write-pair-requires
+write-pair-requires c κs = search needs
+
+enum-known-pairing : tie.Need-enum-known-pairing
+enum-known-pairing c = search needs
+
+-- The start, seen from behind the call that wrote the pair.
+abbrev start : tie.After-write-pair → tie.Start
+start c = c .before .before .before .before .before .before .before .before .before
+
+same-length : tie.Need-same-length
+same-length c = search needs
+
+same-length-2 : tie.Need-same-length-2
+same-length-2 c = search needs
+
+returns : tie.Need-returns
+returns c =
+    let call = c .before .before .before .before .before in
+    not-written (start call .pre) (call .write-pair .ensures) (c .match .keys2)
+
+shapes-length-requires : tie.Need-shapes-length-requires
+shapes-length-requires c κs =
+    let known = c .before .before .before .before .before in
+    let call = known .before .before .before .before .before .before in
+    let rooms = start call .pre in
+    let w = call .write-pair .ensures in
+    let is = known .pairing .given .1 in
+    (pair-shaped rooms w is, (minus-within rooms w is, plus-within rooms w is))
+
+same-length-3 : tie.Need-same-length-3
+same-length-3 c = search needs
+
+same-length-4 : tie.Need-same-length-4
+same-length-4 c = search needs
+
+same-length-5 : tie.Need-same-length-5
+same-length-5 c = search needs
+
+same-length-6 : tie.Need-same-length-6
+same-length-6 c = search needs
+
+returns-2 : tie.Need-returns-2
+returns-2 c =
+    let sum = c .before .before .before .before in
+    let known = sum .before .before .before .before .before .before in
+    let call = known .before .before .before .before .before .before in
+    pair-summed (start call .pre) (call .write-pair .ensures) (known .pairing .given .1) (sum .shapes-length .ensures)
+
+pub length-in-spec : {M : Type 1} → statement M
+length-in-spec =
+    tie.close
+    (tie.spec
+    write-pair-requires
+    enum-known-pairing
+    same-length
+    same-length-2
+    returns
+    shapes-length-requires
+    same-length-3
+    same-length-4
+    same-length-5
+    same-length-6
+    returns-2)
