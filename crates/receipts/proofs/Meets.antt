@@ -2,15 +2,15 @@
 -- (01, 'The receipt program'). Assumes nothing.
 use mathlib.Core.Path.{_≡_, refl, sym, ap, _∙_}
 use mathlib.Core.List.{List, [], _∷_, _++_}
-use Prim.Native.Nat.{ℕ, suc, _+_, _^_, _<_, _≤_}
+use Prim.Native.Nat.{ℕ, suc, _+_, _^_, _≤_}
 use native.Mathlib.Decide.{ℕ-discrete}
 use native.Mathlib.Omega.{arith}
 use lib.ListN.{length, take}
 use Rattle.lines.specs.Lines.{lineFeed}
-use Rattle.lines.specs.Feeding.{keptLine, keptCount, Met, lineThen, met}
+use Rattle.lines.specs.Feeding.{keptLine, keptCount, Met, met}
 use Rattle.lines.proofs.Meeting.{met-end, met-more}
 use Rattle.receipts.specs.Receipts.{receiptOf, receiptsFrom}
-use Rattle.receipts.specs.Serving.{Amid, nextNumber, receiptThen, served}
+use Rattle.receipts.specs.Serving.{Amid, nextNumber, served}
 use Rattle.receipts.proofs.Parts.{served-end, served-more}
 use Rattle.receipts.proofs.Lines.{next-number}
 
