@@ -19,7 +19,7 @@ use pairs::WordLength;
 use refusals::Written;
 
 // The radius of the last sphere.
-const RADIUS: usize = 12;
+const RADIUS: usize = 11;
 
 // The most letters of a word that is asked for: one more than the last sphere's.
 const LETTERS: usize = RADIUS + 1;
