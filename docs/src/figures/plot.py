@@ -7,7 +7,7 @@ import re
 import sys
 
 LEFT, TOP, ROW, WIDTH = 210, 84, 22, 430
-LOW, HIGH = 0.01, 100.0
+LOW, HIGH = 0.01, 10.0
 
 
 def speed_rows(path):
@@ -56,7 +56,7 @@ def main():
         body += parts
         y += 8
     grid = []
-    for tick in (0.01, 0.1, 1, 10, 100):
+    for tick in (0.01, 0.1, 1, 10):
         grid.append(f'<line x1="{x(tick):.1f}" y1="{TOP}" x2="{x(tick):.1f}" y2="{y}" '
                     f'stroke="{"#222" if tick == 1 else "#ddd"}"/>')
         grid.append(text(x(tick), TOP - 8, f"{tick:g}", "middle", 11, "#444"))
