@@ -1,5 +1,5 @@
 // The receipts of whole inputs, each parted in several ways, run on the cases of standard input: one row a case, with
-// the bytes of the output and how many ways were right.
+// the bytes of the output and how many ways were right; then the calls with output buffers of every size that counts.
 // A case is `NAME | INPUT => OUTPUT`, both as bytes in hexadecimal, or a heading, `# ..`.
 use cases::fields;
 use cases::numbers;
@@ -13,6 +13,8 @@ use receipts::OUTPUT;
 use receipts::Served;
 use receipts::Serving;
 use refusals::Written;
+
+mod sizes;
 
 // The most bytes of all cases.
 const CASES: usize = 524288;
@@ -243,5 +245,6 @@ fn main() {
     let n = io::read_full(STDIN_FILENO, &mut input);
     report::print_head();
     run_all(parts::front(&input, n));
+    sizes::run();
     report::print_fit(n < CASES);
 }
