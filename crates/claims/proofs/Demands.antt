@@ -17,11 +17,11 @@ use Rattle.claims.specs.Answers.{IsRefused, Refuses}
 use Rattle.claims.specs.Demands.{Demand1, Demand2, Demand3}
 use Rattle.claims.proofs.Answers.{is-refused, refuses-when}
 use Rattle.claims.proofs.Refusals.{judged↔refusal, no-refusal↔none, judged-accepted, decoded↔refusal}
-use Rattle.claims.proofs.Records.{left-refused, records↔joined, call-of, call-keeps-map, call-front}
-use Rattle.claims.proofs.TwoWords.{two-refused, own-calls, two-decided}
-use Rattle.claims.proofs.Pairs.{pair-refused, pair-gives, length-gives}
-use Rattle.claims.proofs.Spelled.{spelling-refused, spelled-as, word-of-record, spelled-unless-long}
-use Rattle.claims.proofs.Spelled.{joined-spelling, spelling-sent, spelling-again}
+use Rattle.claims.proofs.WordCalls.{left-refused, records↔joined, call-of, call-keeps-map, call-front}
+use Rattle.claims.proofs.TwoWordCalls.{two-refused, own-calls, two-decided}
+use Rattle.claims.proofs.PairCalls.{pair-refused, pair-gives, length-gives}
+use Rattle.claims.proofs.SpellingCalls.{spelling-refused, spelled-as, word-of-record, spelled-unless-long}
+use Rattle.claims.proofs.SpellingCalls.{joined-spelling, spelling-sent, spelling-again}
 
 -- Word to record refuses as the word is judged, and then leaves everything.
 word-refused : {u : List ℕ} {m m′ : Memory} {r : Written} → Recorded u m m′ r

@@ -9,7 +9,7 @@ use Rattle.group.proofs.Deletions.{freely-deletions, freely-reduced, deletion-s
 use Rattle.spelling.specs.Spelling.{spelling}
 use Rattle.spelling.proofs.Words.{spells, spells-only, spelling-length}
 use Rattle.claims.specs.Spellings.{DeletingEnds, FormsAreSpelled, SpellingHasLength}
-use Rattle.claims.proofs.Spelled.{spelling-joined}
+use Rattle.claims.proofs.SpellingCalls.{spelling-joined}
 
 -- Free reduction ends, in whatever order, in one word.
 pub deleting-ends : DeletingEnds

@@ -27,7 +27,7 @@ use Rattle.spelling.specs.Spelling.{spelling}
 use Rattle.spelling.specs.Contracts.{wordIn}
 use Rattle.words.specs.Recording.{recordOfWord}
 use Rattle.claims.specs.Worked.{unreduced, unreducedRecord, deadEnd, deadEndRecord, Measures, IsSpelled, Worked}
-use Rattle.claims.proofs.Records.{read-record}
+use Rattle.claims.proofs.WordCalls.{read-record}
 
 -- The clause is broken at index 0.
 applies-0 : Applies 0 unreduced

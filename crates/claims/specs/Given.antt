@@ -1,11 +1,12 @@
--- What an accepted call gives (demand 2), in the papers' terms, with every byte that it leaves.
+-- What a call gives (demand 2), in the papers' terms, with every byte that it leaves.
 --     RecordOfWord m m′ n w         word to record: the word w, n bytes of record, the memory at entry and at exit
---     PairOfRecord s m p m′ p′ n    record to tree pair: the record s, N = n, both buffers at entry and at exit
+--     PairOfRecord s p q p′ q′ n    record to tree pair: the record s, N = n, both buffers at entry and at exit
 --     LengthOfRecord s n            record to length: the record s, its length n
---     WordOfRecord s w w′ n         record to word: the record s, n letters, the buffer at entry and at exit
+--     WordOfRecord s t t′ o         record to word: the record s, the buffer at entry and at exit, the outcome o
 -- Names used, and where each is defined:
+--     IsRecord s f                  s is the record of the form f                               records, Format
 --     SameMap u v                   u and v move every dyadic point from 0 to 1 alike           group, Maps
---     Reduced f, letters f          the reduced form's clause; f written out in letters         group, Reducing, Forms
+--     letters f                     f written out in letters                                    group, Forms
 --     exponent s f i                b_i (the Side s is bSide) or a_i (s is aSide)               group, Forms
 --     SmallestPair f t u            t and u have f's exponents a and b and one, smallest size   trees, Pairs
 --     SendsLeaves f t u             f's map sends leaf k of t to leaf k of u                    trees, Pairs
@@ -20,7 +21,7 @@
 use mathlib.Core.Path.{_≡_}
 use mathlib.Core.List.{List}
 use mathlib.Core.Logic.{_↔_}
-use Prim.Native.Nat.{ℕ, _+_, _*_, _≤_}
+use Prim.Native.Nat.{ℕ, _+_, _*_, _<_, _≤_}
 use lib.ListN.{length, take, drop, getD}
 use Rattle.lists.specs.Entries.{At}
 use Rattle.group.specs.Letters.{Word}
@@ -28,9 +29,8 @@ use Rattle.group.specs.Bytes.{bytesOf}
 use Rattle.group.specs.Maps.{SameMap}
 use Rattle.group.specs.Forms.{bSide, aSide, Form, exponent, letters}
 use Rattle.group.specs.Limits.{limit}
-use Rattle.group.specs.Reducing.{Reduced}
-use Rattle.refusals.specs.Outcomes.{accepted}
-use Rattle.records.specs.Reading.{decode}
+use Rattle.refusals.specs.Outcomes.{Outcome, accepted, refused}
+use Rattle.records.specs.Format.{encode, IsRecord}
 use Rattle.trees.specs.Trees.{Tree, carets}
 use Rattle.trees.specs.Pairs.{SmallestPair, Redundant, SendsLeaves}
 use Rattle.trees.specs.Shapes.{shape}
@@ -39,12 +39,13 @@ use Rattle.lengths.specs.Weights.{weights}
 use Rattle.spelling.specs.Spelling.{Spells}
 use Rattle.words.specs.Recording.{Memory}
 
--- Word to record: the record that is written is that of a reduced form with the word's map, and the tables hold that
--- form's exponents; everything beyond is unchanged.
+-- Word to record: the n bytes at the front of the buffer are the record of a reduced form with the word's map, and the
+-- tables hold that form's exponents; everything beyond is unchanged.
 pub record RecordOfWord (m m′ : Memory) (n : ℕ) (w : Word) : Type 0 where
   pub form : Form
-  pub reads : decode (take n (m′ .buffer)) ≡ accepted form
-  pub reduced : Reduced form
+  pub bytes : take n (m′ .buffer) ≡ encode form
+  pub count : (n ≡ length (encode form)) × (n ≤ length (m′ .buffer))
+  pub is-record : IsRecord (take n (m′ .buffer)) form
   pub same-map : SameMap (letters form) w
   pub b-table : (i : ℕ) → i ≤ length w → getD (m′ .b) i 0 ≡ exponent bSide form i
   pub a-table : (i : ℕ) → i ≤ length w → getD (m′ .a) i 0 ≡ exponent aSide form i
@@ -55,23 +56,23 @@ pub record RecordOfWord (m m′ : Memory) (n : ℕ) (w : Word) : Type 0 where
 
 -- Record to tree pair: the shapes are those of the smallest pair with the exponents of the record's form, which has no
 -- redundant caret and the form's map; the answer is its N, at most 8,193.
-pub record PairOfRecord (s m p m′ p′ : List ℕ) (n : ℕ) : Type 0 where
+pub record PairOfRecord (s p q p′ q′ : List ℕ) (n : ℕ) : Type 0 where
   pub form : Form
-  pub reads : decode s ≡ accepted form
+  pub is-record : IsRecord s form
   pub minus : Tree
   pub plus : Tree
   pub smallest : SmallestPair form minus plus
   pub number : (carets minus ≡ n) × (carets plus ≡ n)
   pub few : n ≤ 2 * limit + 1
-  pub shapes : (take (2 * n + 1) m′ ≡ shape minus) × (take (2 * n + 1) p′ ≡ shape plus)
-  pub beyond : (drop (2 * n + 1) m′ ≡ drop (2 * n + 1) m) × (drop (2 * n + 1) p′ ≡ drop (2 * n + 1) p)
+  pub shapes : (take (2 * n + 1) p′ ≡ shape minus) × (take (2 * n + 1) q′ ≡ shape plus)
+  pub beyond : (drop (2 * n + 1) p′ ≡ drop (2 * n + 1) p) × (drop (2 * n + 1) q′ ≡ drop (2 * n + 1) q)
   pub same-map : SendsLeaves form minus plus
   pub no-redundant : Redundant minus plus → ⊥
 
 -- Record to length: the sum over k of the weight of caret k of T− with caret k of T+ of that pair.
 pub record LengthOfRecord (s : List ℕ) (n : ℕ) : Type 0 where
   pub form : Form
-  pub reads : decode s ≡ accepted form
+  pub is-record : IsRecord s form
   pub minus : Tree
   pub plus : Tree
   pub smallest : SmallestPair form minus plus
@@ -81,13 +82,19 @@ pub record LengthOfRecord (s : List ℕ) (n : ℕ) : Type 0 where
   pub plus-are : (k : ℕ) (x : Kind) → At plus-kinds k x ↔ IsKind plus k x
   pub sum : n ≡ weights minus-kinds plus-kinds
 
--- Record to word: the letters written are the one word that spells the record's form, a word of the same map.
-pub record WordOfRecord (s w w′ : List ℕ) (n : ℕ) : Type 0 where
+-- What is answered of a spelling: 8 where it passes the limit; else 7 where the buffer is shorter; else the spelling is
+-- written, and the rest of the buffer is unchanged.
+pub data SpelledInto (word : Word) (t t′ : List ℕ) (o : Outcome ℕ) : Type 0 where
+  passesLimit : limit < length word → o ≡ refused 8 0 → t′ ≡ t → SpelledInto word t t′ o
+  passesBuffer : length word ≤ limit → length t < length word → o ≡ refused 7 0 → t′ ≡ t → SpelledInto word t t′ o
+  isWritten : length word ≤ limit → length word ≤ length t → o ≡ accepted (length word)
+      → take (length word) t′ ≡ bytesOf word → drop (length word) t′ ≡ drop (length word) t → SpelledInto word t t′ o
+
+-- Record to word: one word spells the record's form, and it has the form's map; it is answered as above.
+pub record WordOfRecord (s t t′ : List ℕ) (o : Outcome ℕ) : Type 0 where
   pub form : Form
-  pub reads : decode s ≡ accepted form
+  pub is-record : IsRecord s form
   pub word : Word
   pub spells : (x : Word) → Spells form x ↔ (x ≡ word)
-  pub number : (length word ≡ n) × (n ≤ limit)
-  pub bytes : take n w′ ≡ bytesOf word
-  pub beyond : drop n w′ ≡ drop n w
   pub same-map : SameMap word (letters form)
+  pub answer : SpelledInto word t t′ o

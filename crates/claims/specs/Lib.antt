@@ -1,10 +1,14 @@
 -- The demands of the papers as claims: start with Demands.
 pub mod Refusals
 pub mod Answers
+pub mod Calls
 pub mod Given
 pub mod Demands
+pub mod Exports
+pub mod Records
 pub mod Forms
 pub mod Trees
+pub mod Lengths
 pub mod Spellings
 pub mod Receipts
 pub mod Sentences

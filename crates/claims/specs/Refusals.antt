@@ -1,9 +1,9 @@
 -- The refusals of words and records (01, 'Who caused the refusal'): for each its number, its place and its condition,
 -- given where no earlier one of its order holds. For words the order is 1, 2, 6, 7; for records 3, 4, 5, 8, 7.
---     WordRefusal u m n p    of the bytes u as a word, with the memory m lent: number n, place p
---     RecordRefusal s n p    of the bytes s as a record
---     PairRefusal s m p k q  of the bytes s as a record, beside buffers of the lengths m and p: number k, place q
---     SpellingRefusal s n k q  of the bytes s as a record, beside a buffer of n bytes for its spelling
+--     WordRefusal u m number place        of the bytes u as a word, with the memory m lent
+--     RecordRefusal s number place        of the bytes s as a record
+--     PairRefusal s i j number place      of the bytes s as a record, beside buffers of i and j bytes for its shapes
+--     SpellingRefusal s i number place    of the bytes s as a record, beside a buffer of i bytes for its spelling
 -- Assumes nothing.
 use mathlib.Core.Path.{_≡_}
 use mathlib.Core.List.{List}
@@ -14,9 +14,7 @@ use Rattle.group.specs.Letters.{Word}
 use Rattle.group.specs.Bytes.{FirstNotLetter}
 use Rattle.group.specs.Limits.{limit}
 use Rattle.group.specs.Forms.{Form}
-use Rattle.refusals.specs.Outcomes.{accepted}
-use Rattle.records.specs.Format.{baseSize}
-use Rattle.records.specs.Reading.{decode}
+use Rattle.records.specs.Format.{baseSize, IsRecord}
 use Rattle.records.specs.Faults.{Framed, recordEntries, Sound, FirstFault, formRead, FirstBreak}
 use Rattle.trees.specs.Trees.{Tree, carets}
 use Rattle.trees.specs.Pairs.{SmallestPair}
@@ -64,38 +62,38 @@ pub data RecordRefusal (s : List ℕ) (number place : ℕ) : Type 0 where
       → RecordRefusal s number place
 
 -- 7 for shapes: a buffer with fewer bytes than 2N + 1, N the carets of the record's smallest tree pair.
-pub record ShortShape (s : List ℕ) (m p : ℕ) : Type 0 where
+pub record ShortShape (s : List ℕ) (i j : ℕ) : Type 0 where
   pub form : Form
-  pub reads : decode s ≡ accepted form
+  pub is-record : IsRecord s form
   pub minus : Tree
   pub plus : Tree
   pub smallest : SmallestPair form minus plus
-  pub short : (m < 2 * carets minus + 1) ⊎ (p < 2 * carets minus + 1)
+  pub short : (i < 2 * carets minus + 1) ⊎ (j < 2 * carets minus + 1)
 
 -- What is refused of a record and of the buffers lent with it for its tree pair.
-pub data PairRefusal (s : List ℕ) (m p number place : ℕ) : Type 0 where
-  unread : RecordRefusal s number place → PairRefusal s m p number place
-  shortShape : number ≡ 7 → place ≡ 0 → ShortShape s m p → PairRefusal s m p number place
+pub data PairRefusal (s : List ℕ) (i j number place : ℕ) : Type 0 where
+  unread : RecordRefusal s number place → PairRefusal s i j number place
+  shortShape : number ≡ 7 → place ≡ 0 → ShortShape s i j → PairRefusal s i j number place
 
 -- 8: the word that spells the record's form has more letters than the limit.
 pub record LongSpelling (s : List ℕ) : Type 0 where
   pub form : Form
-  pub reads : decode s ≡ accepted form
+  pub is-record : IsRecord s form
   pub word : Word
   pub spells : Spells form word
   pub long : limit < length word
 
 -- 7 for spelling: a buffer with fewer bytes than that word has letters.
-pub record ShortWord (s : List ℕ) (n : ℕ) : Type 0 where
+pub record ShortWord (s : List ℕ) (i : ℕ) : Type 0 where
   pub form : Form
-  pub reads : decode s ≡ accepted form
+  pub is-record : IsRecord s form
   pub word : Word
   pub spells : Spells form word
   pub fits : length word ≤ limit
-  pub short : n < length word
+  pub short : i < length word
 
 -- What is refused of a record and of the buffer lent with it for its spelling.
-pub data SpellingRefusal (s : List ℕ) (n number place : ℕ) : Type 0 where
-  unspelled : RecordRefusal s number place → SpellingRefusal s n number place
-  longSpelling : number ≡ 8 → place ≡ 0 → LongSpelling s → SpellingRefusal s n number place
-  shortWord : number ≡ 7 → place ≡ 0 → ShortWord s n → SpellingRefusal s n number place
+pub data SpellingRefusal (s : List ℕ) (i number place : ℕ) : Type 0 where
+  unspelled : RecordRefusal s number place → SpellingRefusal s i number place
+  longSpelling : number ≡ 8 → place ≡ 0 → LongSpelling s → SpellingRefusal s i number place
+  shortWord : number ≡ 7 → place ≡ 0 → ShortWord s i → SpellingRefusal s i number place

@@ -45,6 +45,11 @@ pub record PairOfForm : Type 0 where
   pub of-empty : (minusTree empty ≡ leaf) × (plusTree empty ≡ leaf)
   pub most : (f : Form) → levels f ≤ limit + 1 → exponentSum f ≤ limit → caretsOf f ≤ 2 * limit + 1
 
+-- 000, section 2.5: every two trees of one size are the pair of a form. With `PairOfForm`, `NoRedundantCaret` and
+-- `PairIsMap` the elements are just the maps of pairs of trees: all of the group F.
+abbrev pub EveryPairIsForm : Type 0
+EveryPairIsForm = (t s : Tree) → carets t ≡ carets s → (f : Form) × Pair f t s
+
 -- 000, theorem 2.6: a pair with a form's exponents has no redundant caret just when the form is reduced and the pair is
 -- its smallest.
 abbrev pub NoRedundantCaret : Type 0

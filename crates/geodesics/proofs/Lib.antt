@@ -29,4 +29,3 @@ pub mod Behind
 -- words
 pub mod WordLengths
 pub mod ShortestWords
-pub mod Theorems

@@ -1,3 +1,2 @@
--- The least number of letters, and the labels of carets.
+-- The labels of carets.
 pub mod Labels
-pub mod Geodesics

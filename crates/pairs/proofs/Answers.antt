@@ -33,7 +33,7 @@ use Rattle.pairs.specs.declared.TreePair.{TreePair}
 use Rattle.pairs.specs.declared.TreePair.the-variants as Pair
 use Rattle.pairs.specs.declared.WordLength.{WordLength}
 use Rattle.pairs.specs.declared.WordLength.the-variants as Word
-use Rattle.pairs.specs.Contracts.{treePairOf, wordLengthOf, pairedIn, Paired, pairingIn, lengthIn}
+use Rattle.pairs.specs.Contracts.{treePairOf, wordLengthOf, pairedIn, Paired, Measured, pairingIn, lengthIn}
 use Rattle.pairs.proofs.Tables.{tree-of-table, tables-fit}
 
 -- The calls' own tables.
@@ -76,6 +76,7 @@ module _ {s z b a : List ℕ} {f : Form} (c : Cleared (suc limit) z) (r : Read s
     pair-short : pairCarets b a (length m) (length p) ≡ refused 7 0
         → pairedIn s (length m) (length p) ≡ refused 7 0 → Paired s m p m′ p′ (pairingIn x)
     pair-short e h = record {
+      are-bytes = r .are-bytes;
       result = rw h (pairing-passed x (refused 7 0) (w .result ∙ e) (λ z. absurd (omega (arith, refused-number z))));
       t-minus = rw h (w .t-minus ∙ ap (λ (o : Outcome ℕ). shapeAfter o a m) e);
       t-plus = rw h (w .t-plus ∙ ap (λ (o : Outcome ℕ). shapeAfter o b p) e);
@@ -85,6 +86,7 @@ module _ {s z b a : List ℕ} {f : Form} (c : Cleared (suc limit) z) (r : Read s
     pair-long : pairCarets b a (length m) (length p) ≡ accepted (caretsOf f)
         → pairedIn s (length m) (length p) ≡ accepted f → Paired s m p m′ p′ (pairingIn x)
     pair-long e h = record {
+      are-bytes = r .are-bytes;
       result = rw h (pairing-passed x (accepted (caretsOf f)) (w .result ∙ e) accepted-refused);
       t-minus =
           rw h (w .t-minus ∙ ap (λ (o : Outcome ℕ). shapeAfter o a m) e ∙ ap (λ (t : Tree). sets m 0 (shape t))
@@ -110,10 +112,15 @@ module _ {s z b a : List ℕ} {v : Verdict} {q : Refusal} (c : Cleared (suc limi
   refuses = read-refused c d e ∙ sym (ap refusal is)
 
   pub pair-refused : {m p : List ℕ} → Paired s m p m p (Pair.Refused r)
-  pair-refused = record { result = rw refuses refl; t-minus = rw refuses refl; t-plus = rw refuses refl }
+  pair-refused = record {
+    are-bytes = d .are-bytes;
+    result = rw refuses refl;
+    t-minus = rw refuses refl;
+    t-plus = rw refuses refl;
+  }
 
-  pub length-refused : wordLengthOf (Word.Refused r) ≡ valued formLength (decode s)
-  length-refused = rw refuses refl
+  pub length-refused : Measured s (Word.Refused r)
+  length-refused = record { are-bytes = d .are-bytes; result = rw refuses refl }
 
 -- The tables of a record that is accepted give its tree pair and its length.
 module _ {s z b a : List ℕ} {v : Verdict} (c : Cleared (suc limit) z) (d : Decoded s z z b a v) (e : v ≡ Accepted) where
@@ -124,5 +131,7 @@ module _ {s z b a : List ℕ} {v : Verdict} (c : Cleared (suc limit) z) (d : Dec
       subst (λ (t : TreePair). Paired s m p m′ p′ t) (sym is) (pair-read c (f .1) x w)
 
   pub length-answer : (l : Length) (r : WordLength) → lengthOf l ≡ tableLength b a → r ≡ lengthIn l
-      → wordLengthOf r ≡ valued formLength (decode s)
-  length-answer l r h is = let f = read-accepted c d e in ap wordLengthOf is ∙ length-read c (f .1) l h
+      → Measured s r
+  length-answer l r h is =
+      let f = read-accepted c d e in
+      record { are-bytes = d .are-bytes; result = ap wordLengthOf is ∙ length-read c (f .1) l h }

@@ -2,6 +2,7 @@
 -- 3, 4 and 5 of the record, then 7.
 --     pairedIn s m p   the form of the bytes s, beside buffers of the lengths m and p, or what is refused
 --     Paired           the contract of `record_to_tree_pair`
+--     Measured         the contract of `record_to_length`
 -- Assumes nothing.
 use mathlib.Core.Path.{_≡_}
 use mathlib.Core.Bool.{cond}
@@ -14,11 +15,13 @@ use Rattle.group.specs.Forms.{Form}
 use Rattle.refusals.specs.Outcomes.{Outcome, accepted, refused, after, then, valued, refusal}
 use Rattle.refusals.specs.declared.Refusal.the-variants.{BadFrame}
 use Rattle.records.specs.Reading.{decode}
+use Rattle.records.specs.Faults.{Bytes}
 use Rattle.trees.specs.Trees.{Tree}
 use Rattle.trees.specs.Pairs.{caretsOf, minusTree, plusTree}
 use Rattle.trees.specs.Shapes.{shape, shapeSize}
 use Rattle.trees.specs.declared.Pairing.{Pairing}
 use Rattle.trees.specs.declared.Pairing.the-variants as Paired-by
+use Rattle.lengths.specs.Weights.{formLength}
 use Rattle.lengths.specs.declared.Length.{Length}
 use Rattle.lengths.specs.declared.Length.the-variants as Summed
 use Rattle.pairs.specs.declared.TreePair.{TreePair}
@@ -46,11 +49,17 @@ pairedIn s m p =
 abbrev pub treeAfter : (Form → Tree) → Outcome Form → List ℕ → List ℕ
 treeAfter tree o buffer = after o buffer (λ f. sets buffer 0 (shape (tree f)))
 
--- N, and the shapes of T− and T+ at the front of the first and the second buffer.
+-- N, and the shapes of T− and T+ at the front of the first and the second buffer. What is lent as a record are bytes.
 pub record Paired (s minus plus minus′ plus′ : List ℕ) (r : TreePair) : Type 0 where
+  pub are-bytes : Bytes s
   pub result : treePairOf r ≡ valued caretsOf (pairedIn s (length minus) (length plus))
   pub t-minus : minus′ ≡ treeAfter minusTree (pairedIn s (length minus) (length plus)) minus
   pub t-plus : plus′ ≡ treeAfter plusTree (pairedIn s (length minus) (length plus)) plus
+
+-- The length of the record's form, or its refusal. What is lent as a record are bytes.
+pub record Measured (s : List ℕ) (r : WordLength) : Type 0 where
+  pub are-bytes : Bytes s
+  pub result : wordLengthOf r ≡ valued formLength (decode s)
 
 -- The answers passed on; what is not met stands for itself.
 abbrev pub pairingIn : Pairing → TreePair

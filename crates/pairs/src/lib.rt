@@ -1,9 +1,6 @@
 // The tree pair and the word length of a record.
 ghost use mathlib.Core.Path.{_≡_};
-ghost use Rattle.refusals.specs.Outcomes.{valued};
-ghost use Rattle.records.specs.Reading.{decode};
-ghost use Rattle.lengths.specs.Weights.{formLength};
-ghost use Rattle.pairs.specs.Contracts.{pairingIn, lengthIn, wordLengthOf, Paired};
+ghost use Rattle.pairs.specs.Contracts.{pairingIn, lengthIn, Paired, Measured};
 use lengths::Length;
 use refusals::LIMIT;
 use refusals::Refusal;
@@ -59,7 +56,7 @@ pub fn record_to_tree_pair(record: &[u8], t_minus: &mut [u8], t_plus: &mut [u8])
 
 // Record to length: refusals 3, 4 and 5; else the sum of the weights over the carets of the pair.
 pub fn record_to_length(record: &[u8]) -> WordLength
-    ensures { λ r. ⌜ wordLengthOf r ≡ valued formLength (decode (now («record» .entry))) ⌝ }
+    ensures { λ r. ⌜ Measured (now («record» .entry)) r ⌝ }
 {
     let mut b = [0u16; LIMIT + 1];
     let mut a = [0u16; LIMIT + 1];

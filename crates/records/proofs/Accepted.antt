@@ -11,7 +11,7 @@ use Rattle.group.specs.Limits.{limit}
 use Rattle.group.specs.Reducing.{Applies}
 use Rattle.group.proofs.Reduced.{Canonical}
 use Rattle.refusals.specs.Outcomes.{accepted}
-use Rattle.records.specs.Format.{Power, powers, entries, encode, Within}
+use Rattle.records.specs.Format.{Power, powers, entries, encode, Within, IsRecord}
 use Rattle.records.specs.Reading.{bPowers, aPowers, exponentAt, decode}
 use Rattle.records.specs.Faults.{Bytes, formRead}
 use Rattle.records.proofs.Framing.{fields, frames→frame, frame-written}
@@ -109,7 +109,16 @@ decode-accepts s f bytes h = (read (reads s), decode-form s f h .0, decode-form 
     read (readable r n e) =
         subst (λ (g : Form). s ≡ encode g) (accepted-same (sym e ∙ h)) (encode-formRead s bytes r)
 
-pub accepted↔encoded : (s : List ℕ) (f : Form) → Bytes s
-    → (decode s ≡ accepted f) ↔ ((s ≡ encode f) × Canonical f × Within f)
-accepted↔encoded s f bytes =
-    (decode-accepts s f bytes, (λ h. ap decode (h .0) ∙ decode-encode f (h .1) (h .2)))
+-- The record of a form is read as that form.
+pub record-decoded : (s : List ℕ) (f : Form) → IsRecord s f → decode s ≡ accepted f
+record-decoded s f h =
+    ap decode (h .bytes) ∙ decode-encode f (record { reduced = h .reduced; trimmed = h .trimmed }) (h .within)
+
+-- Bytes are read as a form just where they are its record.
+pub decoded↔record : (s : List ℕ) (f : Form) → Bytes s → (decode s ≡ accepted f) ↔ IsRecord s f
+decoded↔record s f bytes = (is-record, record-decoded s f)
+  where
+    is-record : decode s ≡ accepted f → IsRecord s f
+    is-record e =
+        let h = decode-accepts s f bytes e in
+        record { bytes = h .0; within = h .2; reduced = h .1 .reduced; trimmed = h .1 .trimmed }

@@ -20,6 +20,7 @@ use Rattle.refusals.specs.declared.Verdict.the-variants.{Accepted, Refused}
 use Rattle.refusals.proofs.Outcomes.{checked-accepted, checked-refused}
 use Rattle.records.specs.Format.{Within}
 use Rattle.records.specs.Reading.{decode}
+use Rattle.records.specs.Faults.{Bytes}
 use Rattle.records.specs.Contracts.{decodedIn, tableRead, Decoded}
 use Rattle.records.proofs.Accepted.{decode-form}
 
@@ -69,6 +70,7 @@ reader-room s n h = go (decode s) refl
 
 -- The tables hold the exponents of the form that was read.
 pub record Read (s z b a : List ℕ) (f : Form) : Type 0 where
+  pub are-bytes : Bytes s
   pub decodes : decode s ≡ accepted f
   pub canonical : Canonical f
   pub within : Within f
@@ -96,6 +98,7 @@ module _ {n : ℕ} {s z b a : List ℕ} {v : Verdict} (c : Cleared n z) (d : Dec
       let both = decode-form s (x .0) (x .1) in (
         x .0,
         record {
+          are-bytes = d .are-bytes;
           decodes = x .1;
           canonical = both .0;
           within = both .1;

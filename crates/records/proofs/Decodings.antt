@@ -17,8 +17,8 @@ use Rattle.refusals.specs.declared.Refusal.{Refusal}
 use Rattle.refusals.specs.declared.Refusal.the-variants.{ShortTable}
 use Rattle.refusals.specs.Outcomes.{Outcome, accepted, refused, then, checked, verdictOf}
 use Rattle.records.specs.Reading.{bPowers, aPowers, exponentAt, decode}
-use Rattle.records.specs.Contracts.{decodedIn, tableRead, Decoded}
-use Rattle.records.specs.Faults.{formRead}
+use Rattle.records.specs.Contracts.{Checked, decodedIn, tableRead, Decoded}
+use Rattle.records.specs.Faults.{Bytes, formRead}
 use Rattle.records.specs.Steps.{frameOf, Ordered}
 use Rattle.records.specs.declared.reading.Frame.the-variants.{Exact, Broken}
 use Rattle.refusals.proofs.Outcomes.{accepted-refused}
@@ -27,9 +27,10 @@ use Rattle.records.proofs.Readings.{Readable, Reads, unframed, faulty, 
 use Rattle.records.proofs.Checks.{form-below}
 
 -- Nothing is written where the call comes to a refusal.
-decoded-kept : (s b a : List ℕ) (r : Verdict) (n p : ℕ) → decodedIn s (length b) (length a) ≡ refused n p
+decoded-kept : (s b a : List ℕ) (r : Verdict) (n p : ℕ) → Bytes s → decodedIn s (length b) (length a) ≡ refused n p
     → verdictOf r ≡ refused n p → Decoded s b a b a r
-decoded-kept s b a r n p e v = record {
+decoded-kept s b a r n p bytes e v = record {
+  are-bytes = bytes;
   result = v ∙ sym (ap (λ (o : Outcome Form). checked o) e);
   b-table = sym (ap (λ (o : Outcome Form). tableRead bSide o b) e);
   a-table = sym (ap (λ (o : Outcome Form). tableRead aSide o a) e);
@@ -40,33 +41,34 @@ abbrev fits : (nb na : ℕ) → Form → Outcome Form
 fits nb na f = cond (ltb nb (suc limit)) (refused 6 0) (cond (ltb na (suc limit)) (refused 6 0) (accepted f))
 
 -- The check refused: 3, 4 or 5.
-pub decoded-refused : (s b a : List ℕ) (v : Verdict) (r : Refusal) → verdictOf v ≡ checked (decode s) → v ≡ Refused r
+pub decoded-refused : (s b a : List ℕ) (v : Verdict) (r : Refusal) → Checked s v → v ≡ Refused r
     → Decoded s b a b a v
-decoded-refused s b a v r h e = go (decode s) refl (sym (ap verdictOf e) ∙ h)
+decoded-refused s b a v r h e = go (decode s) refl (sym (ap verdictOf e) ∙ h .result)
   where
     go : (o : Outcome Form) → decode s ≡ o → verdictOf (Refused r) ≡ checked o → Decoded s b a b a v
     go (accepted f) q k = absurd (accepted-refused (sym k))
     go (refused n p) q k =
-        decoded-kept s b a v n p (ap (λ (o : Outcome Form). then o (fits (length b) (length a))) q)
+        decoded-kept s b a v n p (h .are-bytes) (ap (λ (o : Outcome Form). then o (fits (length b) (length a))) q)
         (ap verdictOf e ∙ k)
 
 -- The check accepted: the form that was read, and where the bytes lie.
 pub record Accepts (s : List ℕ) : Type 0 where
+  pub are-bytes : Bytes s
   pub reading : Readable s
   pub form : decode s ≡ accepted (formRead s)
 
-pub check-accepts : (s : List ℕ) (v : Verdict) → verdictOf v ≡ checked (decode s) → v ≡ Accepted → Accepts s
+pub check-accepts : (s : List ℕ) (v : Verdict) → Checked s v → v ≡ Accepted → Accepts s
 check-accepts s v h e = go (reads s)
   where
     never : (n p : ℕ) → decode s ≡ refused n p → ⊥
     never n p q =
-        accepted-refused (sym (ap verdictOf e) ∙ h ∙ ap (λ (o : Outcome Form). checked o) q)
+        accepted-refused (sym (ap verdictOf e) ∙ h .result ∙ ap (λ (o : Outcome Form). checked o) q)
 
     go : Reads s → Accepts s
     go (unframed f q) = absurd (never 3 0 q)
     go (faulty place f n t q) = absurd (never 4 place q)
     go (unreduced i r t q) = absurd (never 5 i q)
-    go (readable r n q) = record { reading = r; form = q }
+    go (readable r n q) = record { are-bytes = h .are-bytes; reading = r; form = q }
 
 module _ (s b a : List ℕ) (h : Accepts s) where
   in-tables : decodedIn s (length b) (length a) ≡ fits (length b) (length a) (formRead s)
@@ -74,11 +76,12 @@ module _ (s b a : List ℕ) (h : Accepts s) where
 
   pub decoded-short-b : length b < suc limit → Decoded s b a b a (Refused ShortTable)
   decoded-short-b lt =
-      decoded-kept s b a (Refused ShortTable) 6 0 (in-tables ∙ simp (lt-ltb (length b) (suc limit) lt)) refl
+      decoded-kept s b a (Refused ShortTable) 6 0 (h .are-bytes)
+      (in-tables ∙ simp (lt-ltb (length b) (suc limit) lt)) refl
 
   pub decoded-short-a : suc limit ≤ length b → length a < suc limit → Decoded s b a b a (Refused ShortTable)
   decoded-short-a le lt =
-      decoded-kept s b a (Refused ShortTable) 6 0
+      decoded-kept s b a (Refused ShortTable) 6 0 (h .are-bytes)
       (in-tables ∙ simp (le-ltb (length b) (suc limit) le, lt-ltb (length a) (suc limit) lt))
       refl
 
@@ -97,6 +100,7 @@ module _ (s b a : List ℕ) (h : Accepts s) where
       let e : decodedIn s (length b) (length a) ≡ accepted (formRead s) =
       in-tables ∙ simp (le-ltb (length b) (suc limit) lb, le-ltb (length a) (suc limit) la) in
       record {
+        are-bytes = h .are-bytes;
         result = sym (ap (λ (o : Outcome Form). checked o) e);
         b-table = p ∙ same-table bSide b ∙ sym (ap (λ (o : Outcome Form). tableRead bSide o b) e);
         a-table = q ∙ same-table aSide a ∙ sym (ap (λ (o : Outcome Form). tableRead aSide o a) e);

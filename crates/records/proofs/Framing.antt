@@ -13,7 +13,7 @@ use lib.Seq.{drop-cons, drop-at, drop-length}
 use borrow.Author.Tests.{ltb-false, eqb-true, le-ltb, eq-eqb}
 use Rattle.records.specs.Format.{twoBytes, entries, field, bTag, aTag, baseSize}
 use Rattle.records.specs.Reading.{twoAt, bLength, aStart, aLength, frames, entriesAt, bPowers, aPowers}
-use Rattle.records.specs.Faults.{Bytes, Body, Framed}
+use Rattle.records.specs.Faults.{Bytes, Framed}
 use Rattle.records.proofs.Tests.{both-left, both-right, true-both, unless-fails, unless-passes, fails-unless}
 use Rattle.records.proofs.WrittenEntries.{drop-on, read-at, two-read, two-written}
 use Rattle.records.proofs.Lengths.{entries-length}
@@ -116,8 +116,8 @@ frame-written s bytes h =
     ∙ ap (λ (l : List ℕ). field aTag (entries (aPowers s)) ++ l) (drop-length s)
     ∙ append-nil (field aTag (entries (aPowers s))))
 
-entries-body : (s : List ℕ) (at k n : ℕ) → n < 65536 → n ≡ 4 * k → Body (entries (entriesAt s at k))
-entries-body s at k n h e = omega (arith, entries-length (entriesAt s at k), entriesAt-length s at k)
+entries-whole : (s : List ℕ) (at k : ℕ) → length (entries (entriesAt s at k)) % 4 ≡ 0
+entries-whole s at k = omega (arith, entries-length (entriesAt s at k), entriesAt-length s at k)
 
 -- The tests pass just where two fields with whole entries frame the bytes.
 pub frames↔framed : (s : List ℕ) → Bytes s → (frames s ≡ true) ↔ Framed s
@@ -129,13 +129,9 @@ frames↔framed s bytes = ((λ e. framed (frames→frame s e)), (λ h. frame→f
           bBody = entries (bPowers s);
           aBody = entries (aPowers s);
           bytes = frame-written s bytes h;
-          b-body =
-              entries-body s 3 (bLength s / 4) (bLength s)
-              (omega (arith, bytes 1, bytes 2)) (omega (arith, h .b-whole));
-          a-body =
-              entries-body s (aStart s) (aLength s / 4) (aLength s)
-              (omega (arith, bytes (4 + bLength s), bytes (4 + bLength s + 1))) (omega (arith, h .a-whole));
+          b-whole = entries-whole s 3 (bLength s / 4);
+          a-whole = entries-whole s (aStart s) (aLength s / 4);
         }
 
     frame : Framed s → Frame s
-    frame h = rw (h .bytes) (fields-frame (h .bBody) (h .aBody) (h .b-body .whole) (h .a-body .whole))
+    frame h = rw (h .bytes) (fields-frame (h .bBody) (h .aBody) (h .b-whole) (h .a-whole))

@@ -15,6 +15,7 @@ use Rattle.records.specs.declared.Encoding.{Encoding}
 use Rattle.records.specs.declared.Encoding.the-variants.{Bytes, Refused, Unfit}
 use Rattle.records.specs.Format.{recordOf}
 use Rattle.records.specs.Reading.{decode}
+use Rattle.records.specs.Faults.{Bytes as AreBytes}
 
 -- The outcome of each answer of the record writer: 0 is no number of the paper, and no call of the paper meets it.
 abbrev pub encodingOf : Encoding → Outcome ℕ
@@ -34,6 +35,11 @@ pub record Encoded (b a buffer buffer′ : List ℕ) (r : Encoding) : Type 0 whe
   pub result : encodingOf r ≡ valued length (encoded b a (length buffer))
   pub bytes : buffer′ ≡ after (encoded b a (length buffer)) buffer (λ bytes. sets buffer 0 bytes)
 
+-- The record check: accepted, with nothing to say, or refused as the record is. What is lent are bytes.
+pub record Checked (s : List ℕ) (r : Verdict) : Type 0 where
+  pub are-bytes : AreBytes s
+  pub result : verdictOf r ≡ checked (decode s)
+
 -- The form of a record, beside two tables of the lengths nb and na: 3, 4 and 5, then 6. Each table needs an entry for
 -- every index up to the limit.
 abbrev pub decodedIn : (s : List ℕ) (nb na : ℕ) → Outcome Form
@@ -45,8 +51,9 @@ decodedIn s nb na =
 abbrev pub tableRead : Side → Outcome Form → List ℕ → List ℕ
 tableRead s o t = after o t (λ f. filled (suc limit) (exponent s f) t)
 
--- The exponents of a record were written into the two tables.
+-- The exponents of a record were written into the two tables. What is lent as a record are bytes.
 pub record Decoded (s b a b′ a′ : List ℕ) (r : Verdict) : Type 0 where
+  pub are-bytes : AreBytes s
   pub result : verdictOf r ≡ checked (decodedIn s (length b) (length a))
   pub b-table : b′ ≡ tableRead bSide (decodedIn s (length b) (length a)) b
   pub a-table : a′ ≡ tableRead aSide (decodedIn s (length b) (length a)) a

@@ -18,18 +18,13 @@ use Rattle.records.specs.Reading.{aStart, bPowers, aPowers, formOfPowers
 abbrev pub Bytes : List ℕ → Type 0
 Bytes s = (i : ℕ) → getD s i 0 < 256
 
--- A field's body: its length fits two bytes, and it is a multiple of four.
-pub record Body (body : List ℕ) : Type 0 where
-  pub short : length body < 65536
-  pub whole : length body % 4 ≡ 0
-
--- The bytes are the field of the b side, then the field of the a side, and end there.
+-- The bytes are the field of the b side, then the field of the a side, and end there; a body has whole entries.
 pub record Framed (s : List ℕ) : Type 0 where
   pub bBody : List ℕ
   pub aBody : List ℕ
   pub bytes : s ≡ field bTag bBody ++ field aTag aBody
-  pub b-body : Body bBody
-  pub a-body : Body aBody
+  pub b-whole : length bBody % 4 ≡ 0
+  pub a-whole : length aBody % 4 ≡ 0
 
 -- An entry of a record: its side, its offset from the record's start, its index and its exponent.
 pub record Entry : Type 0 where

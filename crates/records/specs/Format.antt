@@ -2,12 +2,15 @@
 --     Power            x_i^e by its index and exponent        powers i t     the powers of exponents e_i, e_(i+1), …
 --     field tag body   a field: tag, length, body             recordOf b a   the record of two sides' exponents
 --     encode f         the record of a form                   Within f       indices and exponents within the limit
+--     IsRecord s f     the bytes s are a record, that of f
 -- Assumes nothing.
+use mathlib.Core.Path.{_≡_}
 use mathlib.Core.List.{List, [], _∷_, _++_}
 use Prim.Native.Nat.{ℕ, zero, suc, _+_, _*_, _/_, _%_, _<_, _≤_}
 use lib.ListN.{length}
-use Rattle.group.specs.Forms.{Side, bSide, aSide, Form, exponent, exponents, exponentSum}
+use Rattle.group.specs.Forms.{Side, bSide, aSide, Form, exponent, exponents, Trimmed, exponentSum}
 use Rattle.group.specs.Limits.{limit}
+use Rattle.group.specs.Reducing.{Reduced}
 
 -- A power of a generator: its index and its exponent.
 pub data Power : Type 0 where
@@ -62,3 +65,11 @@ bufferSize n = baseSize + 4 * n
 pub record Within (f : Form) : Type 0 where
   pub indices : (s : Side) (i : ℕ) → 0 < exponent s f i → i ≤ limit
   pub sum : exponentSum f ≤ limit
+
+-- The bytes are a record, that of the form: the two fields of its entries, indices and exponents within the limit, the
+-- form reduced. It has no level (0, 0) at its end, so that one form has these exponents.
+pub record IsRecord (s : List ℕ) (f : Form) : Type 0 where
+  pub bytes : s ≡ encode f
+  pub within : Within f
+  pub reduced : Reduced f
+  pub trimmed : Trimmed f

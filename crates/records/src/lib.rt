@@ -1,8 +1,5 @@
 // Records: written from two tables of exponents, checked, and read into two tables.
-ghost use mathlib.Core.Path.{_≡_};
-ghost use Rattle.refusals.specs.Outcomes.{verdictOf, checked};
-ghost use Rattle.records.specs.Reading.{decode};
-ghost use Rattle.records.specs.Contracts.{Encoded, Decoded};
+ghost use Rattle.records.specs.Contracts.{Checked, Decoded, Encoded};
 use refusals::LIMIT;
 use refusals::Refusal;
 use refusals::Verdict;
@@ -46,7 +43,7 @@ pub fn write_record(b: &[u16], a: &[u16], buffer: &mut [u8]) -> Encoding
 
 // Record check: refusals 3, 4 and 5, in this order. Nothing is written.
 pub fn check_record(record: &[u8]) -> Verdict
-    ensures { λ r. ⌜ verdictOf r ≡ checked (decode (now («record» .entry))) ⌝ }
+    ensures { λ r. ⌜ Checked (now («record» .entry)) r ⌝ }
 {
     let fields = field_reader::read_frame(record);
     let reading::Frame::Exact(b_length, a_length) = fields else {

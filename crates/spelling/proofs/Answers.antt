@@ -40,7 +40,7 @@ module _ {n : ℕ} {s z b a : List ℕ} {v : Verdict} {q : Refusal} (c : Cleared
   pub word-refused : {word : List ℕ} → Spelled s word word (Written.Refused r)
   word-refused =
       let refuses : decode s ≡ refusal r = read-refused c d e ∙ sym (ap refusal is) in
-      record { result = rw refuses refl; bytes = rw refuses refl }
+      record { are-bytes = d .are-bytes; result = rw refuses refl; bytes = rw refuses refl }
 
 -- The word of the tables is the spelling of the form.
 module _ {n : ℕ} {s z b a : List ℕ} {f : Form} (c : Cleared n z) (r : Read s z b a f) where
@@ -77,7 +77,7 @@ module _ {n : ℕ} {s z b a word : List ℕ} {v : Verdict} (c : Cleared n z) (d 
       let f = read-accepted c d e in
       let long : limit < length (spelling (f .0)) = omega (arith, table-letters c (f .1)) in
       let refuses : spelledIn s (length word) ≡ refused 8 0 = rw (f .1 .decodes, lt-ltb _ _ long) refl in
-      record { result = rw refuses refl; bytes = rw refuses refl }
+      record { are-bytes = d .are-bytes; result = rw refuses refl; bytes = rw refuses refl }
 
   -- 7 where it has not, and the buffer is too short.
   pub word-short : k ≤ limit → length word < k → Spelled s word word (Written.Refused ShortBuffer)
@@ -87,7 +87,7 @@ module _ {n : ℕ} {s z b a word : List ℕ} {v : Verdict} (c : Cleared n z) (d 
       let short : length word < length (spelling (f .0)) = omega (arith, table-letters c (f .1)) in
       let refuses : spelledIn s (length word) ≡ refused 7 0 =
       rw (f .1 .decodes, le-ltb _ _ few, lt-ltb _ _ short) refl in
-      record { result = rw refuses refl; bytes = rw refuses refl }
+      record { are-bytes = d .are-bytes; result = rw refuses refl; bytes = rw refuses refl }
 
   -- Else the word is written.
   pub word-answer : {word′ : List ℕ} {r : ℕ} → k ≤ limit → k ≤ length word
@@ -100,4 +100,4 @@ module _ {n : ℕ} {s z b a word : List ℕ} {v : Verdict} (c : Cleared n z) (d 
       rw (f .1 .decodes, le-ltb _ _ few, le-ltb _ _ fits) refl in
       let wrote = wrote-same (ap bytesOf (table-spelling c (f .1))) w in
       let long : r ≡ length (spelling (f .0)) = omega (arith, wrote .ends, bytes-length (spelling (f .0))) in
-      record { result = rw accepts (ap accepted long); bytes = rw accepts (wrote .holds) }
+      record { are-bytes = d .are-bytes; result = rw accepts (ap accepted long); bytes = rw accepts (wrote .holds) }

@@ -16,6 +16,7 @@ use Rattle.group.specs.Limits.{limit}
 use Rattle.refusals.specs.Outcomes.{Outcome, accepted, refused, after, then, valued, writtenOf}
 use Rattle.refusals.specs.declared.Written.{Written}
 use Rattle.records.specs.Reading.{decode}
+use Rattle.records.specs.Faults.{Bytes}
 use Rattle.spelling.specs.Spelling.{spelling}
 
 -- A word beside a buffer of n bytes: 8 where it has more letters than the limit, then 7 where it has more than n.
@@ -27,6 +28,8 @@ abbrev pub spelledIn : List ℕ → ℕ → Outcome Word
 spelledIn s n = then (decode s) (λ f. wordIn n (spelling f))
 
 -- The word stands at the front of the buffer, and everything beyond is unchanged; the value is its number of letters.
+-- What is lent as a record are bytes.
 pub record Spelled (s word word′ : List ℕ) (r : Written) : Type 0 where
+  pub are-bytes : Bytes s
   pub result : writtenOf r ≡ valued length (spelledIn s (length word))
   pub bytes : word′ ≡ after (spelledIn s (length word)) word (λ w. sets word 0 (bytesOf w))

@@ -1,14 +1,81 @@
--- A refusal of the first word has the paper's own number. Assumes nothing.
-use mathlib.Core.Path.{_≡_, ap}
-use Prim.Native.Nat.{ℕ, _+_, _*_}
+-- The two numbers of an answer are read back as what the answer says, and a refusal of the first word has the paper's
+-- own number. Assumes nothing.
+use mathlib.Core.Path.{_≡_, refl, ap, ap₂}
+use Prim.Native.Nat.{ℕ, zero, suc, _+_, _*_, _/_, _%_, _<_}
 use native.Mathlib.Omega.{arith}
+use lib.Dec.{lit<}
 use Rattle.refusals.specs.declared.Refusal.{Refusal}
+use Rattle.refusals.specs.declared.Refusal.the-variants.{TooManyLetters, NotLetter, BadFrame, BadEntry}
+use Rattle.refusals.specs.declared.Refusal.the-variants.{NotReduced, ShortTable, ShortBuffer, LongSpelling}
+use Rattle.refusals.specs.declared.Verdict.{Verdict}
+use Rattle.refusals.specs.declared.Verdict.the-variants as Verdicts
+use Rattle.refusals.specs.declared.Written.{Written}
+use Rattle.refusals.specs.declared.Written.the-variants as Writings
 use Rattle.refusals.specs.Refusals.{numberOf, placeOf}
-use Rattle.refusals.specs.Outcomes.{refusal}
-use Rattle.words.specs.declared.Comparison.the-variants.{First}
-use Rattle.words.specs.Comparing.{decisionOf}
+use Rattle.refusals.specs.Outcomes.{refused, refusal, verdictOf, writtenOf}
+use Rattle.words.specs.declared.Comparison.{Comparison}
+use Rattle.words.specs.declared.Comparison.the-variants.{Same, Different, First, Second}
+use Rattle.words.specs.Comparing.{refusedWord, decisionOf}
+use Rattle.pairs.specs.declared.TreePair.{TreePair}
+use Rattle.pairs.specs.declared.TreePair.the-variants as Pair
+use Rattle.pairs.specs.declared.WordLength.{WordLength}
+use Rattle.pairs.specs.declared.WordLength.the-variants as Length
+use Rattle.pairs.specs.Contracts.{treePairOf, wordLengthOf}
 use Rattle.thompson.specs.Codes.{answer, codeOf, codeOfDecision}
+use Rattle.thompson.specs.Codes.{readOutcome, outcomeOf, readDecision, decisionIn}
 
 pub first-code : (r : Refusal) → codeOf (refusal r) ≡ codeOfDecision (decisionOf (First r))
 first-code r =
     let e : numberOf r ≡ 256 * 0 + numberOf r = omega arith in ap (λ (n : ℕ). answer n (placeOf r)) e
+
+-- The number of a refusal is neither 0 nor as large as 256.
+number-some : (r : Refusal) → (0 < numberOf r) × (numberOf r < 256)
+number-some TooManyLetters = (lit< tt, lit< tt)
+number-some (NotLetter offset) = (lit< tt, lit< tt)
+number-some BadFrame = (lit< tt, lit< tt)
+number-some (BadEntry offset) = (lit< tt, lit< tt)
+number-some (NotReduced i) = (lit< tt, lit< tt)
+number-some ShortTable = (lit< tt, lit< tt)
+number-some ShortBuffer = (lit< tt, lit< tt)
+number-some LongSpelling = (lit< tt, lit< tt)
+
+-- So it is read as a refusal, and the word beside it is parted from it.
+read-number : (n place : ℕ) → 0 < n → readOutcome n place ≡ refused n place
+read-number zero place h = absurd (omega arith)
+read-number (suc n) place h = refl
+
+read-word : (word n place : ℕ) → 0 < n → n < 256 → readDecision (256 * word + n) place ≡ refusedWord word n place
+read-word word n place some low = go (256 * word + n) refl
+  where
+    go : (k : ℕ) → k ≡ 256 * word + n → readDecision k place ≡ refusedWord word n place
+    go zero e = absurd (omega arith)
+    go (suc k) e =
+        let which : suc k / 256 ≡ word = omega arith in
+        let number : suc k % 256 ≡ n = omega arith in
+        ap₂ (λ (i j : ℕ). refusedWord i j place) which number
+
+refusal-read : (r : Refusal) → outcomeOf (codeOf (refusal r)) ≡ refusal r
+refusal-read r = read-number (numberOf r) (placeOf r) (number-some r .0)
+
+-- What is read in the numbers of each answer.
+pub verdict-read : (v : Verdict) → outcomeOf (codeOf (verdictOf v)) ≡ verdictOf v
+verdict-read Verdicts.Accepted = refl
+verdict-read (Verdicts.Refused r) = refusal-read r
+
+pub written-read : (w : Written) → outcomeOf (codeOf (writtenOf w)) ≡ writtenOf w
+written-read (Writings.Bytes n) = refl
+written-read (Writings.Refused r) = refusal-read r
+
+pub tree-pair-read : (p : TreePair) → outcomeOf (codeOf (treePairOf p)) ≡ treePairOf p
+tree-pair-read (Pair.Carets n) = refl
+tree-pair-read (Pair.Refused r) = refusal-read r
+
+pub length-read : (l : WordLength) → outcomeOf (codeOf (wordLengthOf l)) ≡ wordLengthOf l
+length-read (Length.Letters n) = refl
+length-read (Length.Refused r) = refusal-read r
+
+pub comparison-read : (c : Comparison) → decisionIn (codeOfDecision (decisionOf c)) ≡ decisionOf c
+comparison-read Same = refl
+comparison-read Different = refl
+comparison-read (First r) = read-word 0 (numberOf r) (placeOf r) (number-some r .0) (number-some r .1)
+comparison-read (Second r) = read-word 1 (numberOf r) (placeOf r) (number-some r .0) (number-some r .1)

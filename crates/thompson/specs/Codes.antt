@@ -1,17 +1,12 @@
--- Outcomes as two numbers, for C and Rust: a refusal's number and place, or 0 and the call's value. The contracts are
--- those of the calls that are passed on. Assumes nothing.
+-- Outcomes as two numbers, for C and Rust: a refusal's number and place, or 0 and the call's value.
+--     codeOf, codeOfDecision     the two numbers of an outcome, of a decision on two words
+--     outcomeOf, decisionIn      what a caller reads in the two numbers
+--     Passed code contract r     the contract of every exported call, over the contract of the call it passes on to
+-- Assumes nothing.
 use mathlib.Core.Path.{_≡_}
-use mathlib.Core.List.{List}
-use Prim.Native.Nat.{ℕ, _+_, _*_}
-use lib.ListN.{length}
-use lib.Seq.{sets}
-use Rattle.group.specs.Bytes.{bytesOf}
-use Rattle.refusals.specs.Outcomes.{Outcome, accepted, refused, after, valued}
-use Rattle.words.specs.Recording.{Memory, judgedWith, recorded, Left}
-use Rattle.words.specs.Comparing.{Decision, same, different, refusedWord, decided, beside}
-use Rattle.trees.specs.Pairs.{caretsOf, minusTree, plusTree}
-use Rattle.pairs.specs.Contracts.{pairedIn, treeAfter}
-use Rattle.spelling.specs.Contracts.{spelledIn}
+use Prim.Native.Nat.{ℕ, zero, suc, _+_, _*_, _/_, _%_}
+use Rattle.refusals.specs.Outcomes.{Outcome, accepted, refused}
+use Rattle.words.specs.Comparing.{Decision, same, different, refusedWord}
 use Rattle.thompson.specs.declared.Answer.{Answer}
 
 -- The two numbers of an answer.
@@ -29,25 +24,25 @@ codeOfDecision same = answer 0 1
 codeOfDecision different = answer 0 0
 codeOfDecision (refusedWord word number place) = answer (256 * word + number) place
 
--- Word to record.
-pub record ExportedRecord (word : List ℕ) (entry exit : Memory) (r : Answer) : Type 0 where
-  pub result : r ≡ codeOf (recorded (judgedWith word entry))
-  pub leaves : Left (judgedWith word entry) entry exit
+-- What a caller reads: 0 for a refusal is no refusal, and the other number is the value.
+abbrev pub readOutcome : (refusal value : ℕ) → Outcome ℕ
+readOutcome zero value = accepted value
+readOutcome (suc n) place = refused (suc n) place
 
--- Record to word.
-pub record ExportedWord (s word word′ : List ℕ) (r : Answer) : Type 0 where
-  pub result : r ≡ codeOf (valued length (spelledIn s (length word)))
-  pub bytes : word′ ≡ after (spelledIn s (length word)) word (λ w. sets word 0 (bytesOf w))
+abbrev pub outcomeOf : Answer → Outcome ℕ
+outcomeOf r = readOutcome (r .refusal) (r .value)
 
--- Record to tree pair.
-pub record ExportedPair (s minus plus minus′ plus′ : List ℕ) (r : Answer) : Type 0 where
-  pub result : r ≡ codeOf (valued caretsOf (pairedIn s (length minus) (length plus)))
-  pub t-minus : minus′ ≡ treeAfter minusTree (pairedIn s (length minus) (length plus)) minus
-  pub t-plus : plus′ ≡ treeAfter plusTree (pairedIn s (length minus) (length plus)) plus
+-- Of two words: 1 is same, 0 different; the word, 0 or 1, is how often 256 is in a refusal.
+abbrev pub readDecision : (refusal value : ℕ) → Decision
+readDecision zero zero = different
+readDecision zero (suc value) = same
+readDecision (suc n) place = refusedWord (suc n / 256) (suc n % 256) place
 
--- Two words.
-pub record ExportedComparison (word1 : List ℕ) (entry1 exit1 : Memory) (word2 : List ℕ) (entry2 exit2 : Memory)
-    (r : Answer) : Type 0 where
-  pub result : r ≡ codeOfDecision (decided (judgedWith word1 entry1) (judgedWith word2 entry2))
-  pub leaves1 : Left (beside (judgedWith word1 entry1) (judgedWith word2 entry2)) entry1 exit1
-  pub leaves2 : Left (beside (judgedWith word2 entry2) (judgedWith word1 entry1)) entry2 exit2
+abbrev pub decisionIn : Answer → Decision
+decisionIn r = readDecision (r .refusal) (r .value)
+
+-- An exported call passes an answer on: its numbers are those of an answer that meets the contract of the call.
+pub record Passed {A : Type 0} (code : A → Answer) (contract : A → Type 0) (r : Answer) : Type 0 where
+  pub passed : A
+  pub numbers : r ≡ code passed
+  pub meets : contract passed

@@ -1,14 +1,13 @@
 // The calls for C and Rust. Each passes on to the proved call and answers two numbers: the refusal's number and place,
 // or 0 and the call's value. In the two-word call 256 is added to the number where the second word is refused.
 ghost use mathlib.Core.Path.{_≡_};
-ghost use Rattle.refusals.specs.Outcomes.{verdictOf, writtenOf, checked, valued};
-ghost use Rattle.records.specs.Reading.{decode};
-ghost use Rattle.words.specs.Recording.{memory};
-ghost use Rattle.words.specs.Comparing.{decisionOf};
-ghost use Rattle.lengths.specs.Weights.{formLength};
-ghost use Rattle.pairs.specs.Contracts.{treePairOf, wordLengthOf};
-ghost use Rattle.thompson.specs.Codes.{codeOf, codeOfDecision, ExportedRecord, ExportedComparison, ExportedPair};
-ghost use Rattle.thompson.specs.Codes.{ExportedWord};
+ghost use Rattle.refusals.specs.Outcomes.{verdictOf, writtenOf};
+ghost use Rattle.records.specs.Contracts.{Checked};
+ghost use Rattle.words.specs.Recording.{memory, Recorded};
+ghost use Rattle.words.specs.Comparing.{decisionOf, Compared};
+ghost use Rattle.pairs.specs.Contracts.{treePairOf, wordLengthOf, Paired, Measured};
+ghost use Rattle.spelling.specs.Contracts.{Spelled};
+ghost use Rattle.thompson.specs.Codes.{codeOf, codeOfDecision, Passed};
 use pairs::TreePair;
 use pairs::WordLength;
 use refusals::Refusal;
@@ -23,6 +22,7 @@ pub struct Answer {
     pub value: u64,
 }
 
+// The two numbers of a refusal.
 fn refused(r: Refusal) -> Answer
     ensures { λ s. ⌜ s ≡ codeOf (Rattle.refusals.specs.Outcomes.refusal r) ⌝ }
 {
@@ -32,6 +32,7 @@ fn refused(r: Refusal) -> Answer
     }
 }
 
+// Those of each answer type.
 fn from_verdict(v: Verdict) -> Answer
     ensures { λ s. ⌜ s ≡ codeOf (verdictOf v) ⌝ }
 {
@@ -44,6 +45,7 @@ fn from_verdict(v: Verdict) -> Answer
     }
 }
 
+// The value is the number of bytes.
 fn from_written(w: Written) -> Answer
     ensures { λ s. ⌜ s ≡ codeOf (writtenOf w) ⌝ }
 {
@@ -56,6 +58,7 @@ fn from_written(w: Written) -> Answer
     }
 }
 
+// The value is the number of carets.
 fn from_tree_pair(p: TreePair) -> Answer
     ensures { λ s. ⌜ s ≡ codeOf (treePairOf p) ⌝ }
 {
@@ -68,6 +71,7 @@ fn from_tree_pair(p: TreePair) -> Answer
     }
 }
 
+// The value is the length.
 fn from_length(l: WordLength) -> Answer
     ensures { λ s. ⌜ s ≡ codeOf (wordLengthOf l) ⌝ }
 {
@@ -90,6 +94,7 @@ fn second(r: Refusal) -> Answer
     }
 }
 
+// The value is 1 for the same element, 0 for different ones.
 fn from_comparison(c: Comparison) -> Answer
     ensures { λ s. ⌜ s ≡ codeOfDecision (decisionOf c) ⌝ }
 {
@@ -115,9 +120,9 @@ pub extern "C" fn thompson_word_to_record(
     a_table: &mut [u16],
     record: &mut [u8],
 ) -> Answer
-    ensures { λ r. ⌜ ExportedRecord (now (word .entry))
+    ensures { λ r. ⌜ Passed (λ a. codeOf (writtenOf a)) (Recorded (now (word .entry))
         (memory (now («b_table» .entry)) (now («a_table» .entry)) (now («record» .entry)))
-        (memory (now («b_table» .exit)) (now («a_table» .exit)) (now («record» .exit))) r ⌝ }
+        (memory (now («b_table» .exit)) (now («a_table» .exit)) (now («record» .exit)))) r ⌝ }
 {
     from_written(words::word_to_record(word, b_table, a_table, record))
 }
@@ -125,7 +130,7 @@ pub extern "C" fn thompson_word_to_record(
 // Record check; the value is 0.
 #[no_mangle]
 pub extern "C" fn thompson_check_record(record: &[u8]) -> Answer
-    ensures { λ r. ⌜ r ≡ codeOf (checked (decode (now («record» .entry)))) ⌝ }
+    ensures { λ r. ⌜ Passed (λ a. codeOf (verdictOf a)) (Checked (now («record» .entry))) r ⌝ }
 {
     from_verdict(records::check_record(record))
 }
@@ -133,7 +138,8 @@ pub extern "C" fn thompson_check_record(record: &[u8]) -> Answer
 // Record to word; the value is the number of letters.
 #[no_mangle]
 pub extern "C" fn thompson_record_to_word(record: &[u8], word: &mut [u8]) -> Answer
-    ensures { λ r. ⌜ ExportedWord (now («record» .entry)) (now (word .entry)) (now (word .exit)) r ⌝ }
+    ensures { λ r. ⌜ Passed (λ a. codeOf (writtenOf a))
+        (Spelled (now («record» .entry)) (now (word .entry)) (now (word .exit))) r ⌝ }
 {
     from_written(spelling::record_to_word(record, word))
 }
@@ -145,8 +151,9 @@ pub extern "C" fn thompson_record_to_tree_pair(
     t_minus: &mut [u8],
     t_plus: &mut [u8],
 ) -> Answer
-    ensures { λ r. ⌜ ExportedPair (now («record» .entry)) (now («t_minus» .entry)) (now («t_plus» .entry))
-        (now («t_minus» .exit)) (now («t_plus» .exit)) r ⌝ }
+    ensures { λ r. ⌜ Passed (λ a. codeOf (treePairOf a))
+        (Paired (now («record» .entry)) (now («t_minus» .entry)) (now («t_plus» .entry))
+        (now («t_minus» .exit)) (now («t_plus» .exit))) r ⌝ }
 {
     from_tree_pair(pairs::record_to_tree_pair(record, t_minus, t_plus))
 }
@@ -154,7 +161,7 @@ pub extern "C" fn thompson_record_to_tree_pair(
 // Record to length; the value is the length.
 #[no_mangle]
 pub extern "C" fn thompson_record_to_length(record: &[u8]) -> Answer
-    ensures { λ r. ⌜ r ≡ codeOf (valued formLength (decode (now («record» .entry)))) ⌝ }
+    ensures { λ r. ⌜ Passed (λ a. codeOf (wordLengthOf a)) (Measured (now («record» .entry))) r ⌝ }
 {
     from_length(pairs::record_to_length(record))
 }
@@ -171,12 +178,12 @@ pub extern "C" fn thompson_same_element(
     a_table2: &mut [u16],
     record2: &mut [u8],
 ) -> Answer
-    ensures { λ r. ⌜ ExportedComparison (now (word1 .entry))
+    ensures { λ r. ⌜ Passed (λ a. codeOfDecision (decisionOf a)) (Compared (now (word1 .entry))
         (memory (now («b_table1» .entry)) (now («a_table1» .entry)) (now (record1 .entry)))
         (memory (now («b_table1» .exit)) (now («a_table1» .exit)) (now (record1 .exit)))
         (now (word2 .entry))
         (memory (now («b_table2» .entry)) (now («a_table2» .entry)) (now (record2 .entry)))
-        (memory (now («b_table2» .exit)) (now («a_table2» .exit)) (now (record2 .exit))) r ⌝ }
+        (memory (now («b_table2» .exit)) (now («a_table2» .exit)) (now (record2 .exit)))) r ⌝ }
 {
     from_comparison(words::same_element(
         word1,

@@ -1,5 +1,6 @@
 -- `check_record` meets its contract: the frame, then the entries, then the clause. Assumes nothing.
 use mathlib.Core.Path.{sym, ap, _∙_}
+use native.Mathlib.Omega.{arith}
 use Rattle.refusals.specs.Outcomes.{verdictOf}
 use Rattle.records.proofs.Fields.{fields-ordered}
 use Rattle.records.proofs.Checks.{check-broken, check-stops, check-goes-on}
@@ -17,8 +18,15 @@ enum-told : tie.Need-enum-told
 enum-told c = search needs
 
 returns : tie.Need-returns
-returns c = check-broken (c .before .before .before .before .args .«record» .now) (sym (c .before .before .read-frame
-    .ensures) ∙ c .enum-told .given .1)
+returns c =
+    let at-frame = c .before .before in
+    let at-bytes = at-frame .before in
+    record {
+      are-bytes = λ i. omega (arith, at-bytes .shared-slice-known .given i);
+      result =
+          check-broken (at-bytes .before .args .«record» .now)
+          (sym (at-frame .read-frame .ensures) ∙ c .enum-told .given .1);
+    }
 
 check-entries-requires : tie.Need-check-entries-requires
 check-entries-requires c κs = sym (c .before .before .before .read-frame .ensures) ∙ c .before .fields .given .1
@@ -27,25 +35,45 @@ enum-known-entries : tie.Need-enum-known-entries
 enum-known-entries c = search needs
 
 returns-2 : tie.Need-returns-2
-returns-2 c = check-stops (c .before .before .before .before .before .before .before .before .before .args .«record»
-    .now) (sym (c .before .before .before .before .before .before .before .read-frame .ensures) ∙ c .before .before
-    .before .before .before .fields .given .1) _ _ (sym (ap verdictOf (c .before .entries .given .1)) ∙ c .before
-    .before .before .check-entries .ensures)
+returns-2 c =
+    let at-entries = c .before .before .before in
+    let at-fields = at-entries .before .before in
+    let at-frame = at-fields .before .before in
+    let at-bytes = at-frame .before in
+    record {
+      are-bytes = λ i. omega (arith, at-bytes .shared-slice-known .given i);
+      result =
+          check-stops (at-bytes .before .args .«record» .now)
+          (sym (at-frame .read-frame .ensures) ∙ at-fields .fields .given .1) _ _
+          (sym (ap verdictOf (c .before .entries .given .1)) ∙ at-entries .check-entries .ensures);
+    }
 
 enum-told-2 : tie.Need-enum-told-2
 enum-told-2 c = search needs
 
 check-reduced-requires : tie.Need-check-reduced-requires
-check-reduced-requires c κs = fields-ordered (c .before .before .before .before .before .before .before .before .args
-    .«record» .now) _ _ (sym (c .before .before .before .before .before .before .read-frame .ensures) ∙ c .before
-    .before .before .before .fields .given .1) (sym (ap verdictOf (c .enum-told2 .given .1)) ∙ c .before .before
-    .check-entries .ensures)
+check-reduced-requires c κs =
+    let at-entries = c .before .before in
+    let at-fields = at-entries .before .before in
+    let at-frame = at-fields .before .before in
+    fields-ordered (at-frame .before .before .args .«record» .now) _ _
+    (sym (at-frame .read-frame .ensures) ∙ at-fields .fields .given .1)
+    (sym (ap verdictOf (c .enum-told2 .given .1)) ∙ at-entries .check-entries .ensures)
 
 returns-3 : tie.Need-returns-3
-returns-3 c = c .check-reduced .ensures ∙ check-goes-on (c .before .before .before .before .before .before .before
-    .before .before .args .«record» .now) (sym (c .before .before .before .before .before .before .before .read-frame
-    .ensures) ∙ c .before .before .before .before .before .fields .given .1) (sym (ap verdictOf (c .before .enum-told2
-    .given .1)) ∙ c .before .before .before .check-entries .ensures)
+returns-3 c =
+    let at-entries = c .before .before .before in
+    let at-fields = at-entries .before .before in
+    let at-frame = at-fields .before .before in
+    let at-bytes = at-frame .before in
+    record {
+      are-bytes = λ i. omega (arith, at-bytes .shared-slice-known .given i);
+      result =
+          c .check-reduced .ensures
+          ∙ check-goes-on (at-bytes .before .args .«record» .now)
+          (sym (at-frame .read-frame .ensures) ∙ at-fields .fields .given .1)
+          (sym (ap verdictOf (c .before .enum-told2 .given .1)) ∙ at-entries .check-entries .ensures);
+    }
 
 pub check-record-spec : {M : Type 1} → statement M
 check-record-spec =

@@ -1,6 +1,4 @@
 -- `thompson_check_record` meets its contract. Assumes nothing.
-use mathlib.Core.Path.{ap, _∙_}
-use Rattle.thompson.specs.Codes.{codeOf}
 use borrow.Author.Needs.{needs}
 use Rattle.thompson.proofs.thompson_check_record.Statement.{statement}
 use Rattle.thompson.proofs.thompson_check_record.Tie as tie
@@ -12,7 +10,13 @@ from-verdict-requires : tie.Need-from-verdict-requires
 from-verdict-requires c κs = search needs
 
 returns : tie.Need-returns
-returns c = c .from-verdict .ensures ∙ ap codeOf (c .before .check-record .ensures)
+returns c =
+    let at-call = c .before in
+    record {
+      passed = at-call .check-record .result;
+      numbers = c .from-verdict .ensures;
+      meets = at-call .check-record .ensures;
+    }
 
 pub thompson-check-record-spec : {M : Type 1} → statement M
 thompson-check-record-spec =

@@ -1,6 +1,4 @@
 -- `thompson_record_to_length` meets its contract. Assumes nothing.
-use mathlib.Core.Path.{ap, _∙_}
-use Rattle.thompson.specs.Codes.{codeOf}
 use borrow.Author.Needs.{needs}
 use Rattle.thompson.proofs.thompson_record_to_length.Statement.{statement}
 use Rattle.thompson.proofs.thompson_record_to_length.Tie as tie
@@ -12,7 +10,13 @@ from-length-requires : tie.Need-from-length-requires
 from-length-requires c κs = search needs
 
 returns : tie.Need-returns
-returns c = c .from-length .ensures ∙ ap codeOf (c .before .record-to-length .ensures)
+returns c =
+    let at-call = c .before in
+    record {
+      passed = at-call .record-to-length .result;
+      numbers = c .from-length .ensures;
+      meets = at-call .record-to-length .ensures;
+    }
 
 pub thompson-record-to-length-spec : {M : Type 1} → statement M
 thompson-record-to-length-spec =

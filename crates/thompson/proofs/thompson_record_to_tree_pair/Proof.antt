@@ -1,6 +1,4 @@
 -- `thompson_record_to_tree_pair` meets its contract. Assumes nothing.
-use mathlib.Core.Path.{ap, _∙_}
-use Rattle.thompson.specs.Codes.{codeOf}
 use borrow.Author.Needs.{needs}
 use Rattle.thompson.proofs.thompson_record_to_tree_pair.Statement.{statement}
 use Rattle.thompson.proofs.thompson_record_to_tree_pair.Tie as tie
@@ -18,11 +16,13 @@ same-length-2 : tie.Need-same-length-2
 same-length-2 c = search needs
 
 returns : tie.Need-returns
-returns c = let call = c .before .before .before .before .before .record-to-tree-pair .ensures in record {
-  result = c .from-tree-pair .ensures ∙ ap codeOf (call .result);
-  t-minus = call .t-minus;
-  t-plus = call .t-plus;
-}
+returns c =
+    let at-call = c .before .before .before .before .before in
+    record {
+      passed = at-call .record-to-tree-pair .result;
+      numbers = c .from-tree-pair .ensures;
+      meets = at-call .record-to-tree-pair .ensures;
+    }
 
 pub thompson-record-to-tree-pair-spec : {M : Type 1} → statement M
 thompson-record-to-tree-pair-spec =

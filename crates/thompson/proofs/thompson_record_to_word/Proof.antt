@@ -1,6 +1,4 @@
 -- `thompson_record_to_word` meets its contract. Assumes nothing.
-use mathlib.Core.Path.{ap, _∙_}
-use Rattle.thompson.specs.Codes.{codeOf}
 use borrow.Author.Needs.{needs}
 use Rattle.thompson.proofs.thompson_record_to_word.Statement.{statement}
 use Rattle.thompson.proofs.thompson_record_to_word.Tie as tie
@@ -15,10 +13,13 @@ same-length : tie.Need-same-length
 same-length c = search needs
 
 returns : tie.Need-returns
-returns c = let call = c .before .before .before .record-to-word .ensures in record {
-  result = c .from-written .ensures ∙ ap codeOf (call .result);
-  bytes = call .bytes;
-}
+returns c =
+    let at-call = c .before .before .before in
+    record {
+      passed = at-call .record-to-word .result;
+      numbers = c .from-written .ensures;
+      meets = at-call .record-to-word .ensures;
+    }
 
 pub thompson-record-to-word-spec : {M : Type 1} → statement M
 thompson-record-to-word-spec =

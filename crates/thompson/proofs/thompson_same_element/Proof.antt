@@ -1,6 +1,4 @@
 -- `thompson_same_element` meets its contract. Assumes nothing.
-use mathlib.Core.Path.{ap, _∙_}
-use Rattle.thompson.specs.Codes.{codeOfDecision}
 use borrow.Author.Needs.{needs}
 use Rattle.thompson.proofs.thompson_same_element.Statement.{statement}
 use Rattle.thompson.proofs.thompson_same_element.Tie as tie
@@ -30,12 +28,14 @@ same-length-6 : tie.Need-same-length-6
 same-length-6 c = search needs
 
 returns : tie.Need-returns
-returns c = let call = c .before .before .before .before .before .before .before .before .before .before .before
-    .before .before .same-element .ensures in record {
-      result = c .from-comparison .ensures ∙ ap codeOfDecision (call
-          .result);
-      leaves1 = call .leaves1;
-      leaves2 = call .leaves2;
+returns c =
+    let at-second-back = c .before .before .before .before .before .before in
+    let at-first-back = at-second-back .before .before .before .before .before .before in
+    let at-call = at-first-back .before in
+    record {
+      passed = at-call .same-element .result;
+      numbers = c .from-comparison .ensures;
+      meets = at-call .same-element .ensures;
     }
 
 pub thompson-same-element-spec : {M : Type 1} → statement M

@@ -1,6 +1,4 @@
 -- `thompson_word_to_record` meets its contract. Assumes nothing.
-use mathlib.Core.Path.{ap, _∙_}
-use Rattle.thompson.specs.Codes.{codeOf}
 use borrow.Author.Needs.{needs}
 use Rattle.thompson.proofs.thompson_word_to_record.Statement.{statement}
 use Rattle.thompson.proofs.thompson_word_to_record.Tie as tie
@@ -21,10 +19,14 @@ same-length-3 : tie.Need-same-length-3
 same-length-3 c = search needs
 
 returns : tie.Need-returns
-returns c = let call = c .before .before .before .before .before .before .before .word-to-record .ensures in record {
-  result = c .from-written .ensures ∙ ap codeOf (call .result);
-  leaves = call .leaves;
-}
+returns c =
+    let at-back = c .before .before .before in
+    let at-call = at-back .before .before .before .before in
+    record {
+      passed = at-call .word-to-record .result;
+      numbers = c .from-written .ensures;
+      meets = at-call .word-to-record .ensures;
+    }
 
 pub thompson-word-to-record-spec : {M : Type 1} → statement M
 thompson-word-to-record-spec =

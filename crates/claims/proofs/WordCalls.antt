@@ -2,10 +2,10 @@
 use mathlib.Core.Path.{_≡_, sym, ap, ap₂, _∙_}
 use mathlib.Core.List.{List}
 use mathlib.Core.Logic.{_↔_}
-use Prim.Native.Nat.{ℕ, _+_, _<_, _≤_}
+use Prim.Native.Nat.{ℕ, _+_, _<_, _≤_, min}
 use native.Mathlib.Decide.{decLe}
 use native.Mathlib.Omega.{arith}
-use lib.ListN.{length, take, drop, getD}
+use lib.ListN.{length, take, drop, getD, length-take}
 use lib.Seq.{drop-at}
 use Rattle.lists.proofs.Writes.{sets-beyond}
 use Rattle.lists.specs.Tables.{values, filled}
@@ -151,8 +151,17 @@ call-keeps-map {u} {m} {m′} {r} {n} {w} h e b =
     let fits : 0 + length (recordOfWord w) ≤ length (m .buffer) = record-fits u m w so in
     record {
       form = formOf w;
-      reads = recorded-form w h e b;
-      reduced = form-reduced w;
+      bytes = call .front;
+      count = (
+        call .count,
+        omega (arith, sym (length-take n (m′ .buffer)) ∙ ap length (call .front) ∙ sym (call .count)),
+      );
+      is-record = record {
+        bytes = call .front;
+        within = form-within w (judged-within u m w so);
+        reduced = form-reduced w;
+        trimmed = form-trimmed w;
+      };
       same-map = form-map w;
       b-table = table-at w bSide (m .b) (m′ .b) tb;
       a-table = table-at w aSide (m .a) (m′ .a) ta;

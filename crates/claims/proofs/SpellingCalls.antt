@@ -27,18 +27,17 @@ use Rattle.refusals.proofs.Outcomes.{accepted-same, accepted-refused, refused-n
 use Rattle.records.specs.Format.{encode}
 use Rattle.records.specs.Reading.{decode}
 use Rattle.records.specs.Faults.{Bytes}
-use Rattle.records.proofs.Accepted.{decode-form, decode-accepts}
+use Rattle.records.proofs.Accepted.{decode-form, decode-accepts, record-decoded, decoded↔record}
 use Rattle.spelling.specs.Spelling.{Spells, spelling}
 use Rattle.spelling.specs.Contracts.{spelledIn, Spelled}
 use Rattle.spelling.proofs.Words.{spells, spells-only}
-use Rattle.words.specs.Recording.{Memory, recordOfWord, Recorded}
+use Rattle.words.specs.Recording.{Memory, recordOfWord}
 use Rattle.claims.specs.Refusals.{ShortTable, ShortBuffer, NoWordRefusal, LongSpelling, ShortWord}
-use Rattle.claims.specs.Refusals.{SpellingRefusal, unspelled, longSpelling, shortWord}
-use Rattle.claims.specs.Answers.{IsRefused, IsAccepted, Refuses}
-use Rattle.claims.specs.Given.{WordOfRecord}
+use Rattle.claims.specs.Refusals.{RecordRefusal, SpellingRefusal, unspelled, longSpelling, shortWord}
+use Rattle.claims.specs.Answers.{IsRefused, Refuses, None}
+use Rattle.claims.specs.Given.{SpelledInto, passesLimit, passesBuffer, isWritten, WordOfRecord}
 use Rattle.claims.proofs.Answers.{is-refused, refuses-when}
 use Rattle.claims.proofs.Refusals.{word-lettered, decoded↔refusal}
-use Rattle.claims.proofs.Records.{call-front, recorded-form}
 
 -- What is found of a record and a buffer of n bytes, in each of its cases.
 data Found (s : List ℕ) (n : ℕ) : Type 0 where
@@ -79,13 +78,14 @@ module _ (s : List ℕ) (n : ℕ) where
   long-refused h =
       let same : length (h .word) ≡ length (spelling (h .form)) =
       ap length (spells-only (h .form) (h .word) (h .spells)) in
-      find-long (h .form) (h .reads) (omega (arith, same, h .long))
+      find-long (h .form) (record-decoded s (h .form) (h .is-record)) (omega (arith, same, h .long))
 
   short-refused : ShortWord s n → spelledIn s n ≡ refused 7 0
   short-refused h =
       let same : length (h .word) ≡ length (spelling (h .form)) =
       ap length (spells-only (h .form) (h .word) (h .spells)) in
-      find-short (h .form) (h .reads) (omega (arith, same, h .fits)) (omega (arith, same, h .short))
+      find-short (h .form) (record-decoded s (h .form) (h .is-record)) (omega (arith, same, h .fits))
+      (omega (arith, same, h .short))
 
   -- A refusal of a record and a buffer, by its condition.
   spelled↔refusal : Bytes s → (k q : ℕ) → (spelledIn s n ≡ refused k q) ↔ SpellingRefusal s n k q
@@ -97,14 +97,14 @@ module _ (s : List ℕ) (n : ℕ) where
           unspelled (decoded↔refusal s bytes k q .0 (e ∙ ap₂ refused (refused-number y) (refused-place y)))
       from (tooLong f e l o) x = longSpelling (refused-number (sym x ∙ o)) (refused-place (sym x ∙ o)) (record {
         form = f;
-        reads = e;
+        is-record = decoded↔record s f bytes .0 e;
         word = spelling f;
         spells = spells f;
         long = l;
       })
       from (tooShort f e g l o) x = shortWord (refused-number (sym x ∙ o)) (refused-place (sym x ∙ o)) (record {
         form = f;
-        reads = e;
+        is-record = decoded↔record s f bytes .0 e;
         word = spelling f;
         spells = spells f;
         fits = g;
@@ -119,11 +119,10 @@ module _ (s : List ℕ) (n : ℕ) where
 
 -- Refused as what is found, and then the buffer stays.
 pub spelling-refused : {s w w′ : List ℕ} {r : Written} → Spelled s w w′ r
-    → (Bytes s → Refuses (writtenOf r) (SpellingRefusal s (length w))) × (IsRefused (writtenOf r) → w′ ≡ w)
+    → Refuses (writtenOf r) (SpellingRefusal s (length w)) × (IsRefused (writtenOf r) → w′ ≡ w)
 spelling-refused {s} {w} h = (
-  (λ bytes.
-      refuses-when length (spelledIn s (length w)) (h .result) (SpellingRefusal s (length w))
-      (spelled↔refusal s (length w) bytes)),
+  refuses-when length (spelledIn s (length w)) (h .result) (SpellingRefusal s (length w))
+      (spelled↔refusal s (length w) (h .are-bytes)),
   (λ x.
       let o = is-refused length (spelledIn s (length w)) (h .result) x .2 in
       h .bytes ∙ ap (λ (q : Outcome Word). after q w (λ y. sets w 0 (bytesOf y))) o),
@@ -176,44 +175,45 @@ front-spelled {s} {w} {w′} {n} {f} c =
     ap (take n) (c .holds)
     ∙ sets-front (bytesOf (spelling f)) w n (bytes-length (spelling f) ∙ c .number) (omega (arith, c .number, c .room))
 
-beyond-spelled : {s w w′ : List ℕ} {n : ℕ} {f : Form} → SpelledAs s w w′ n f → drop n w′ ≡ drop n w
-beyond-spelled {s} {w} {w′} {n} {f} c =
-    ap (drop n) (c .holds)
-    ∙ sets-beyond (bytesOf (spelling f)) w n (bytes-length (spelling f) ∙ c .number) (omega (arith, c .number, c .room))
-
--- What an accepted call gives.
-pub word-of-record : {s w w′ : List ℕ} {n : ℕ} {f : Form} → SpelledAs s w w′ n f → WordOfRecord s w w′ n
-word-of-record {s} {w} {w′} {n} {f} c = record {
-  form = f;
-  reads = c .reads;
-  word = spelling f;
-  spells = λ x. (spells-only f x, λ e. subst (λ (y : Word). Spells f y) (sym e) (spells f));
-  number = (c .number, omega (arith, c .number, c .low));
-  bytes = front-spelled c;
-  beyond = beyond-spelled c;
-  same-map = joined-map (spelling f) (letters f) (spelling-joined f);
-}
-
--- A buffer with as many bytes as the limit is never too short.
-pub spelled-unless-long : {s w w′ : List ℕ} {r : Written} (f : Form) → Spelled s w w′ r → decode s ≡ accepted f
-    → limit ≤ length w → IsAccepted (writtenOf r) ⊎ ((x : Word) × Spells f x × (limit < length x))
-spelled-unless-long {s} {w} {w′} {r} f h d room = go (find s (length w))
+-- What is answered where the record is read.
+pub word-of-record : {s w w′ : List ℕ} {r : Written} → Spelled s w w′ r → None (RecordRefusal s)
+    → WordOfRecord s w w′ (writtenOf r)
+word-of-record {s} {w} {w′} {r} h none = go (find s (length w))
   where
-    go : Found s (length w) → IsAccepted (writtenOf r) ⊎ ((x : Word) × Spells f x × (limit < length x))
-    go (unreadable k q e o) = absurd (accepted-refused (sym d ∙ e))
-    go (tooLong g e l o) =
-        let same : g ≡ f = accepted-same (sym e ∙ d) in
-        inr (spelling f, spells f, subst (λ (x : Form). limit < length (spelling x)) same l)
-    go (tooShort g e k l o) = absurd (omega (arith, k, l, room))
-    go (found g e k l o) = inl (length (spelling g), h .result ∙ ap (valued length) o)
+    left : {o : Outcome Word} → spelledIn s (length w) ≡ o → w′ ≡ after o w (λ y. sets w 0 (bytesOf y))
+    left e = h .bytes ∙ ap (λ (o : Outcome Word). after o w (λ y. sets w 0 (bytesOf y))) e
 
--- A word with the record is joined to the spelling.
-pub joined-spelling : {s w w′ u : List ℕ} {m m′ : Memory} {q : Written} {n l : ℕ} {x y : Word} {f : Form}
-    → SpelledAs s w w′ n f → take n w′ ≡ bytesOf x
-    → Recorded u m m′ q → writtenOf q ≡ accepted l → u ≡ bytesOf y → take l (m′ .buffer) ≡ s → Joined x y
-joined-spelling {s} {w} {w′} {u} {m} {m′} {q} {n} {l} {x} {y} {f} c a h e b t =
+    of-form : (f : Form) → decode s ≡ accepted f → SpelledInto (spelling f) w w′ (writtenOf r)
+        → WordOfRecord s w w′ (writtenOf r)
+    of-form f e a = record {
+      form = f;
+      is-record = decoded↔record s f (h .are-bytes) .0 e;
+      word = spelling f;
+      spells = λ x. (spells-only f x, λ q. subst (λ (y : Word). Spells f y) (sym q) (spells f));
+      same-map = joined-map (spelling f) (letters f) (spelling-joined f);
+      answer = a;
+    }
+
+    written : (f : Form) → length (spelling f) ≤ limit → length (spelling f) ≤ length w
+        → spelledIn s (length w) ≡ accepted (spelling f) → SpelledInto (spelling f) w w′ (writtenOf r)
+    written f low room o =
+        let long = bytes-length (spelling f) in
+        isWritten low room (h .result ∙ ap (valued length) o)
+        (ap (take (length (spelling f))) (left o) ∙ sets-front (bytesOf (spelling f)) w _ long room)
+        (ap (drop (length (spelling f))) (left o) ∙ sets-beyond (bytesOf (spelling f)) w _ long room)
+
+    go : Found s (length w) → WordOfRecord s w w′ (writtenOf r)
+    go (unreadable k q e o) = absurd (none k q (decoded↔refusal s (h .are-bytes) k q .0 e))
+    go (tooLong f e l o) = of-form f e (passesLimit l (h .result ∙ ap (valued length) o) (left o))
+    go (tooShort f e k l o) = of-form f e (passesBuffer k l (h .result ∙ ap (valued length) o) (left o))
+    go (found f e k l o) = of-form f e (written f k l o)
+
+-- The spelling is joined to a word whose form is that of the record.
+pub joined-spelling : {s w w′ : List ℕ} {n : ℕ} {x y : Word} {f : Form} → SpelledAs s w w′ n f
+    → take n w′ ≡ bytesOf x → decode s ≡ accepted (formOf y) → Joined x y
+joined-spelling {s} {w} {w′} {n} {x} {y} {f} c a reads =
     let one : x ≡ spelling f = bytes-injective x (spelling f) (sym a ∙ front-spelled c) in
-    let same : f ≡ formOf y = accepted-same (sym (c .reads) ∙ sym (ap decode t) ∙ recorded-form y h e b) in
+    let same : f ≡ formOf y = accepted-same (sym (c .reads) ∙ reads) in
     subst (λ (z : Word). Joined z y) (sym one)
     (joined-trans (spelling-joined f) (subst (λ (g : Form). Joined (letters g) y) (sym same) (form-joined y)))
 
@@ -230,14 +230,11 @@ spelling-sent {s} {w} {w′} {n} {f} m c tables buffer =
     }
 
 -- The record of the spelling.
-pub spelling-again : {s w w′ : List ℕ} {m m′ : Memory} {q : Written} {n l : ℕ} {f : Form} → Bytes s
-    → SpelledAs s w w′ n f → Recorded (take n w′) m m′ q → writtenOf q ≡ accepted l
-    → (l ≡ length s) × (take l (m′ .buffer) ≡ s)
-spelling-again {s} {w} {w′} {m} {m′} {q} {n} {l} {f} bytes c h e =
-    let call = call-front {w = spelling f} h e (front-spelled c) in
+pub spelling-again : {s w w′ : List ℕ} {n : ℕ} {x : Word} {f : Form} → Bytes s → SpelledAs s w w′ n f
+    → take n w′ ≡ bytesOf x → recordOfWord x ≡ s
+spelling-again {s} {w} {w′} {n} {x} {f} bytes c a =
+    let one : x ≡ spelling f = bytes-injective x (spelling f) (sym a ∙ front-spelled c) in
     let good = decode-form s f (c .reads) in
     let same : f ≡ formOf (spelling f) =
     the-form-joined (spelling f) f (good .0 .reduced) (good .0 .trimmed) (freely-joined (letters f)) in
-    let again : recordOfWord (spelling f) ≡ s =
-    ap encode (sym same) ∙ sym (decode-accepts s f bytes (c .reads) .0) in
-    (call .count ∙ ap length again, call .front ∙ again)
+    ap recordOfWord one ∙ ap encode (sym same) ∙ sym (decode-accepts s f bytes (c .reads) .0)

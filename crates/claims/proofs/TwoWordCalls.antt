@@ -20,7 +20,7 @@ use Rattle.words.proofs.Compared.{same-bytes, bytes-same}
 use Rattle.claims.specs.Refusals.{WordRefusal}
 use Rattle.claims.specs.Answers.{None, WordRefused, Answered, RefusesWords}
 use Rattle.claims.proofs.Refusals.{judged↔refusal, accepted-none, none-accepted}
-use Rattle.claims.proofs.Records.{left-refused, records↔joined}
+use Rattle.claims.proofs.WordCalls.{left-refused, records↔joined}
 
 -- Decisions that differ.
 other-word : {i q n p : ℕ} → refusedWord 1 i q ≡ refusedWord 0 n p → ⊥

@@ -14,7 +14,7 @@ use Rattle.refusals.specs.Outcomes.{Outcome, accepted, refused, valued}
 use Rattle.refusals.proofs.Outcomes.{accepted-same, accepted-refused, refused-number, refused-place, valued-accepted}
 use Rattle.records.specs.Reading.{decode}
 use Rattle.records.specs.Faults.{Bytes}
-use Rattle.records.proofs.Accepted.{decode-form}
+use Rattle.records.proofs.Accepted.{decode-form, record-decoded, decoded↔record}
 use Rattle.trees.specs.Trees.{Tree, carets}
 use Rattle.trees.specs.Pairs.{caretsOf, minusTree, plusTree}
 use Rattle.trees.specs.Shapes.{shape, shapeSize}
@@ -25,12 +25,12 @@ use Rattle.trees.proofs.Shapes.{shape-length}
 use Rattle.lengths.specs.Kinds.{kinds}
 use Rattle.lengths.specs.Weights.{formLength}
 use Rattle.lengths.proofs.CaretKinds.{kind-at}
-use Rattle.pairs.specs.Contracts.{treePairOf, wordLengthOf, pairedIn, treeAfter, Paired}
+use Rattle.pairs.specs.Contracts.{treePairOf, wordLengthOf, pairedIn, treeAfter, Paired, Measured}
 use Rattle.pairs.specs.declared.TreePair.{TreePair}
 use Rattle.pairs.specs.declared.WordLength.{WordLength}
 use Rattle.pairs.proofs.Tables.{carets-most}
 use Rattle.claims.specs.Refusals.{ShortShape, PairRefusal, unread, shortShape}
-use Rattle.claims.specs.Answers.{IsRefused, Refuses, Measured}
+use Rattle.claims.specs.Answers.{IsRefused, Refuses}
 use Rattle.claims.specs.Given.{PairOfRecord, LengthOfRecord}
 use Rattle.claims.proofs.Answers.{is-refused, refuses-when}
 use Rattle.claims.proofs.Refusals.{decoded↔refusal}
@@ -50,11 +50,11 @@ module _ (s : List ℕ) (m p : ℕ) where
       → pairedIn s m p ≡ refused 7 0
   short-plus f e g h = rw e (simp (le-ltb m (shapeSize (caretsOf f)) g, lt-ltb p (shapeSize (caretsOf f)) h))
 
-  short-of : (f : Form) → decode s ≡ accepted f → (m < shapeSize (caretsOf f)) ⊎ (p < shapeSize (caretsOf f))
+  short-of : Bytes s → (f : Form) → decode s ≡ accepted f → (m < shapeSize (caretsOf f)) ⊎ (p < shapeSize (caretsOf f))
       → ShortShape s m p
-  short-of f e h = record {
+  short-of bytes f e h = record {
     form = f;
-    reads = e;
+    is-record = decoded↔record s f bytes .0 e;
     minus = minusTree f;
     plus = plusTree f;
     smallest = smallest-pair f;
@@ -66,13 +66,13 @@ module _ (s : List ℕ) (m p : ℕ) where
       size (inl k) = inl (omega (arith, pair-carets f .0))
       size (inr k) = inr (omega (arith, pair-carets f .0))
 
-  find : Found s m p
-  find = go (decode s) refl
+  find : Bytes s → Found s m p
+  find bytes = go (decode s) refl
     where
       fits : (f : Form) → decode s ≡ accepted f → Dec (m < shapeSize (caretsOf f)) → Dec (p < shapeSize (caretsOf f))
           → Found s m p
-      fits f e (yes h) d = tooShort (short-of f e (inl h)) (short-minus f e h)
-      fits f e (no h) (yes k) = tooShort (short-of f e (inr k)) (short-plus f e (omega arith) k)
+      fits f e (yes h) d = tooShort (short-of bytes f e (inl h)) (short-minus f e h)
+      fits f e (no h) (yes k) = tooShort (short-of bytes f e (inr k)) (short-plus f e (omega arith) k)
       fits f e (no h) (no k) =
           let long-m : shapeSize (caretsOf f) ≤ m = omega arith in
           let long-p : shapeSize (caretsOf f) ≤ p = omega arith in
@@ -87,18 +87,21 @@ module _ (s : List ℕ) (m p : ℕ) where
   short-refused : ShortShape s m p → pairedIn s m p ≡ refused 7 0
   short-refused h = go (decLt m (shapeSize (caretsOf (h .form)))) (h .short)
     where
+      reads : decode s ≡ accepted (h .form)
+      reads = record-decoded s (h .form) (h .is-record)
+
       size : carets (h .minus) ≡ caretsOf (h .form)
       size = smallest-carets (h .form) (h .minus) (h .plus) (h .smallest)
 
       go : Dec (m < shapeSize (caretsOf (h .form))) → (m < 2 * carets (h .minus) + 1) ⊎ (p < 2 * carets (h .minus) + 1)
           → pairedIn s m p ≡ refused 7 0
-      go (yes k) x = short-minus (h .form) (h .reads) k
+      go (yes k) x = short-minus (h .form) reads k
       go (no k) (inl x) = absurd (omega (arith, size))
-      go (no k) (inr x) = short-plus (h .form) (h .reads) (omega arith) (omega (arith, size))
+      go (no k) (inr x) = short-plus (h .form) reads (omega arith) (omega (arith, size))
 
   -- A refusal of a record and two buffers, by its condition.
   paired↔refusal : Bytes s → (n q : ℕ) → (pairedIn s m p ≡ refused n q) ↔ PairRefusal s m p n q
-  paired↔refusal bytes n q = (from find, to)
+  paired↔refusal bytes n q = (from (find bytes), to)
     where
       from : Found s m p → pairedIn s m p ≡ refused n q → PairRefusal s m p n q
       from (unreadable k i e o) x = unread (decoded↔refusal s bytes n q .0 (e ∙ sym o ∙ x))
@@ -111,12 +114,11 @@ module _ (s : List ℕ) (m p : ℕ) where
 
 module _ {s m p m′ p′ : List ℕ} {r : TreePair} (h : Paired s m p m′ p′ r) where
   -- Refused as what is found, and then both buffers stay.
-  pub pair-refused : (Bytes s → Refuses (treePairOf r) (PairRefusal s (length m) (length p)))
+  pub pair-refused : Refuses (treePairOf r) (PairRefusal s (length m) (length p))
       × (IsRefused (treePairOf r) → (m′ ≡ m) × (p′ ≡ p))
   pair-refused = (
-    (λ bytes.
-        refuses-when caretsOf (pairedIn s (length m) (length p)) (h .result) (PairRefusal s (length m) (length p))
-        (paired↔refusal s (length m) (length p) bytes)),
+    refuses-when caretsOf (pairedIn s (length m) (length p)) (h .result) (PairRefusal s (length m) (length p))
+        (paired↔refusal s (length m) (length p) (h .are-bytes)),
     (λ x.
         let o = is-refused caretsOf (pairedIn s (length m) (length p)) (h .result) x .2 in (
           h .t-minus ∙ ap (λ (y : Outcome Form). treeAfter minusTree y m) o,
@@ -144,7 +146,7 @@ module _ {s m p m′ p′ : List ℕ} {r : TreePair} (h : Paired s m p m′ p′
         let kept = decode-form s f e in
         record {
           form = f;
-          reads = e;
+          is-record = decoded↔record s f (h .are-bytes) .0 e;
           minus = minusTree f;
           plus = plusTree f;
           smallest = smallest-pair f;
@@ -164,7 +166,7 @@ module _ {s m p m′ p′ : List ℕ} {r : TreePair} (h : Paired s m p m′ p′
 
   -- An accepted call.
   pub pair-gives : (n : ℕ) → treePairOf r ≡ accepted n → PairOfRecord s m p m′ p′ n
-  pair-gives n a = go (find s (length m) (length p))
+  pair-gives n a = go (find s (length m) (length p) (h .are-bytes))
     where
       never : (k q : ℕ) → pairedIn s (length m) (length p) ≡ refused k q → ⊥
       never k q o = accepted-refused (sym a ∙ h .result ∙ ap (valued caretsOf) o)
@@ -180,11 +182,11 @@ module _ {s m p m′ p′ : List ℕ} {r : TreePair} (h : Paired s m p m′ p′
 pub length-gives : (s : List ℕ) (r : WordLength) (n : ℕ) → Measured s r → wordLengthOf r ≡ accepted n
     → LengthOfRecord s n
 length-gives s r n h a =
-    let x = valued-accepted formLength (decode s) n (sym h ∙ a) in
+    let x = valued-accepted formLength (decode s) n (sym (h .result) ∙ a) in
     let f : Form = x .0 in
     record {
       form = f;
-      reads = x .1;
+      is-record = decoded↔record s f (h .are-bytes) .0 (x .1);
       minus = minusTree f;
       plus = plusTree f;
       smallest = smallest-pair f;

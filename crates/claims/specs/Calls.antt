@@ -1,0 +1,93 @@
+-- Accepted calls, one record for each kind: what was lent, what was left, the answer and its value, whatever the lent
+-- memory held. `contract` is the call's own contract, which its function is proved to meet (crate `calls`).
+--     WordCall w          word_to_record on the bytes of the word w          recordBy c    the record that it wrote
+--     SpellingCall s      record_to_word on the record s                     spelledBy c   the letters that it wrote
+--     PairCall s          record_to_tree_pair on the record s
+--     LengthCall s        record_to_length on the record s
+--     TwoWordCall u v     same_element on the bytes u and v, which answered
+--     ExportedCall w      thompson_word_to_record on the bytes of w          exportedRecord c   the record it wrote
+-- Assumes nothing.
+use mathlib.Core.Path.{_≡_}
+use mathlib.Core.List.{List}
+use Prim.Native.Nat.{ℕ}
+use lib.ListN.{take}
+use Rattle.group.specs.Letters.{Word}
+use Rattle.group.specs.Bytes.{bytesOf}
+use Rattle.refusals.specs.Outcomes.{accepted, writtenOf}
+use Rattle.refusals.specs.declared.Written.{Written}
+use Rattle.words.specs.Recording.{Memory, Recorded}
+use Rattle.words.specs.Comparing.{Compared, decisionOf}
+use Rattle.words.specs.declared.Comparison.{Comparison}
+use Rattle.pairs.specs.Contracts.{Paired, Measured, treePairOf, wordLengthOf}
+use Rattle.pairs.specs.declared.TreePair.{TreePair}
+use Rattle.pairs.specs.declared.WordLength.{WordLength}
+use Rattle.spelling.specs.Contracts.{Spelled}
+use Rattle.thompson.specs.Codes.{codeOf, Passed}
+use Rattle.thompson.specs.declared.Answer.{Answer}
+use Rattle.claims.specs.Answers.{Answered}
+
+-- An accepted call of word_to_record on the bytes of a word.
+pub record WordCall (w : Word) : Type 0 where
+  pub lent : Memory
+  pub left : Memory
+  pub answer : Written
+  pub count : ℕ
+  pub contract : Recorded (bytesOf w) lent left answer
+  pub taken : writtenOf answer ≡ accepted count
+
+-- The record that it wrote.
+abbrev pub recordBy : {w : Word} → WordCall w → List ℕ
+recordBy c = take (c .count) (c .left .buffer)
+
+-- An accepted call of record_to_word.
+pub record SpellingCall (s : List ℕ) : Type 0 where
+  pub lent : List ℕ
+  pub left : List ℕ
+  pub answer : Written
+  pub count : ℕ
+  pub contract : Spelled s lent left answer
+  pub taken : writtenOf answer ≡ accepted count
+
+-- The letters that it wrote, as bytes.
+abbrev pub spelledBy : {s : List ℕ} → SpellingCall s → List ℕ
+spelledBy c = take (c .count) (c .left)
+
+-- An accepted call of record_to_tree_pair.
+pub record PairCall (s : List ℕ) : Type 0 where
+  pub lent-minus : List ℕ
+  pub lent-plus : List ℕ
+  pub left-minus : List ℕ
+  pub left-plus : List ℕ
+  pub answer : TreePair
+  pub count : ℕ
+  pub contract : Paired s lent-minus lent-plus left-minus left-plus answer
+  pub taken : treePairOf answer ≡ accepted count
+
+-- An accepted call of record_to_length.
+pub record LengthCall (s : List ℕ) : Type 0 where
+  pub answer : WordLength
+  pub count : ℕ
+  pub contract : Measured s answer
+  pub taken : wordLengthOf answer ≡ accepted count
+
+-- A call of same_element that answered same or different.
+pub record TwoWordCall (u v : List ℕ) : Type 0 where
+  pub lent1 : Memory
+  pub left1 : Memory
+  pub lent2 : Memory
+  pub left2 : Memory
+  pub answer : Comparison
+  pub contract : Compared u lent1 left1 v lent2 left2 answer
+  pub taken : Answered (decisionOf answer)
+
+-- An accepted call of thompson_word_to_record on the bytes of a word: its refusal is 0.
+pub record ExportedCall (w : Word) : Type 0 where
+  pub lent : Memory
+  pub left : Memory
+  pub answer : Answer
+  pub contract : Passed (λ r. codeOf (writtenOf r)) (Recorded (bytesOf w) lent left) answer
+  pub taken : answer .refusal ≡ 0
+
+-- The record that it wrote.
+abbrev pub exportedRecord : {w : Word} → ExportedCall w → List ℕ
+exportedRecord c = take (c .answer .value) (c .left .buffer)

@@ -1,0 +1,41 @@
+-- The exports for C and Rust answer as the calls that they pass on to: the two numbers of an answer say what an answer
+-- that meets the call's contract says, so that the demands on the calls hold of the exports. proofs/Exports.antt has
+-- the proof. What the claim speaks of, and where it is defined:
+--     Passed code contract r   the contract of each export                                            thompson, Codes
+--     outcomeOf, decisionIn    what a caller reads in the numbers: 0 and a value, or number and place thompson, Codes
+--     the contracts, and writtenOf, verdictOf, treePairOf, wordLengthOf, decisionOf      the glossary of Demands.antt
+-- Assumes nothing.
+use mathlib.Core.Path.{_≡_}
+use mathlib.Core.List.{List}
+use Prim.Native.Nat.{ℕ}
+use Rattle.refusals.specs.Outcomes.{verdictOf, writtenOf}
+use Rattle.refusals.specs.declared.Verdict.{Verdict}
+use Rattle.refusals.specs.declared.Written.{Written}
+use Rattle.records.specs.Contracts.{Checked}
+use Rattle.pairs.specs.Contracts.{Paired, Measured, treePairOf, wordLengthOf}
+use Rattle.pairs.specs.declared.TreePair.{TreePair}
+use Rattle.pairs.specs.declared.WordLength.{WordLength}
+use Rattle.spelling.specs.Contracts.{Spelled}
+use Rattle.words.specs.Recording.{Memory, Recorded}
+use Rattle.words.specs.Comparing.{Compared, decisionOf}
+use Rattle.words.specs.declared.Comparison.{Comparison}
+use Rattle.thompson.specs.Codes.{codeOf, codeOfDecision, outcomeOf, decisionIn, Passed}
+use Rattle.thompson.specs.declared.Answer.{Answer}
+
+-- Each exported call answers as its call does.
+pub record ExportsAnswerAsCalls : Type 0 where
+  pub word-to-record : (u : List ℕ) (m m′ : Memory) (a : Answer)
+      → Passed (λ r. codeOf (writtenOf r)) (Recorded u m m′) a
+      → (r : Written) × Recorded u m m′ r × (outcomeOf a ≡ writtenOf r)
+  pub check-record : (s : List ℕ) (a : Answer) → Passed (λ r. codeOf (verdictOf r)) (Checked s) a
+      → (r : Verdict) × Checked s r × (outcomeOf a ≡ verdictOf r)
+  pub record-to-tree-pair : (s p q p′ q′ : List ℕ) (a : Answer)
+      → Passed (λ r. codeOf (treePairOf r)) (Paired s p q p′ q′) a
+      → (r : TreePair) × Paired s p q p′ q′ r × (outcomeOf a ≡ treePairOf r)
+  pub record-to-length : (s : List ℕ) (a : Answer) → Passed (λ r. codeOf (wordLengthOf r)) (Measured s) a
+      → (r : WordLength) × Measured s r × (outcomeOf a ≡ wordLengthOf r)
+  pub record-to-word : (s t t′ : List ℕ) (a : Answer) → Passed (λ r. codeOf (writtenOf r)) (Spelled s t t′) a
+      → (r : Written) × Spelled s t t′ r × (outcomeOf a ≡ writtenOf r)
+  pub same-element : (u v : List ℕ) (m m′ k k′ : Memory) (a : Answer)
+      → Passed (λ r. codeOfDecision (decisionOf r)) (Compared u m m′ v k k′) a
+      → (r : Comparison) × Compared u m m′ v k k′ r × (decisionIn a ≡ decisionOf r)

@@ -1,0 +1,73 @@
+-- Fordham's length is the least number of letters (000, section 3.1, lemma 3.1 and theorem 3.2; 01, 'The tree pair and
+-- the length'; 001, section 2): a claim each; proofs/Lengths.antt has the proofs, under the same names in small letters
+-- with hyphens. What the claims speak of, and where it is defined:
+--     LengthCall s       an accepted call of record_to_length on the record s; its answer is `count`   claims, Calls
+--     WordCall w         an accepted call of word_to_record on the bytes of w                          claims, Calls
+--     IsRecord s f       s is the record of the form f                                                records, Format
+--     formOf w           the reduced form of a word                                                   group, Products
+--     letters f          the form f written out in letters                                            group, Forms
+--     Joined, SameMap    a chain joins two words; they move every dyadic point alike                  group
+--     formLength f       the sum of the weights of its smallest pair                                  lengths, Weights
+--     caretsOf f         N of the form, the carets of each tree                                       trees, Pairs
+--     labelLength        the sum of 001, Table 1, over a pair of trees                                geodesics, Labels
+-- Assumes nothing.
+use mathlib.Core.Path.{_≡_}
+use mathlib.Core.List.{List, [], _∷_, _++_}
+use mathlib.Core.Logic.{_⊎_, _↔_}
+use Prim.Native.Nat.{ℕ, suc, _+_, _≤_}
+use lib.ListN.{length}
+use Rattle.group.specs.Letters.{Letter, Word}
+use Rattle.group.specs.Chains.{Joined}
+use Rattle.group.specs.Maps.{SameMap}
+use Rattle.group.specs.Forms.{Form, letters}
+use Rattle.group.specs.Products.{formOf}
+use Rattle.records.specs.Format.{IsRecord}
+use Rattle.trees.specs.Pairs.{caretsOf, minusTree, plusTree}
+use Rattle.lengths.specs.Weights.{formLength}
+use Rattle.geodesics.specs.Labels.{labelLength}
+use Rattle.claims.specs.Calls.{WordCall, recordBy, LengthCall}
+
+-- The call's answer is the least number of letters: some word of the record's element has so many, none has fewer, also
+-- among the words of the same map, of any length; so no word is shorter than the length of its own record.
+pub record LengthIsLeast : Type 0 where
+  pub reached : (s : List ℕ) (c : LengthCall s) (f : Form) → IsRecord s f
+      → (w : Word) × Joined w (letters f) × (length w ≡ c .count)
+  pub least : (s : List ℕ) (c : LengthCall s) (f : Form) → IsRecord s f
+      → (w : Word) → Joined w (letters f) → c .count ≤ length w
+  pub least-of-map : (s : List ℕ) (c : LengthCall s) (f : Form) → IsRecord s f
+      → (w : Word) → SameMap w (letters f) → c .count ≤ length w
+  pub of-word : (w : Word) (f : WordCall w) (c : LengthCall (recordBy f)) → c .count ≤ length w
+
+-- Lemma 3.1, property 3: a letter put behind a word changes the length of its element by exactly one.
+abbrev pub LetterChangesByOne : Type 0
+LetterChangesByOne =
+    (w : Word) (x : Letter)
+    → (formLength (formOf (w ++ (x ∷ []))) ≡ suc (formLength (formOf w)))
+    ⊎ (formLength (formOf w) ≡ suc (formLength (formOf (w ++ (x ∷ [])))))
+
+-- Property 4: unless the length is 0, some letter put behind lowers it by one.
+abbrev pub SomeLetterLowers : Type 0
+SomeLetterLowers =
+    (w : Word)
+    → (formLength (formOf w) ≡ 0)
+    ⊎ ((x : Letter) × (formLength (formOf w) ≡ suc (formLength (formOf (w ++ (x ∷ []))))))
+
+-- Properties 1 and 2: length 0 is the identity alone.
+abbrev pub ZeroIsIdentity : Type 0
+ZeroIsIdentity = (w : Word) → (formLength (formOf w) ≡ 0) ↔ Joined w []
+
+-- Theorem 3.2: every element has a word of as many letters as its length.
+abbrev pub LengthIsReached : Type 0
+LengthIsReached = (w : Word) → (u : Word) × Joined u w × (length u ≡ formLength (formOf w))
+
+-- Theorem 3.2: no word of the element has fewer letters.
+abbrev pub NoShorterWord : Type 0
+NoShorterWord = (u w : Word) → Joined u w → formLength (formOf w) ≤ length u
+
+-- The trees of an element have at most two carets more than its length.
+abbrev pub FewCarets : Type 0
+FewCarets = (w : Word) → caretsOf (formOf w) ≤ formLength (formOf w) + 2
+
+-- 001, section 2: the sum of Table 1 over the labels is Fordham's length.
+abbrev pub LabelsGiveLength : Type 0
+LabelsGiveLength = (f : Form) → labelLength (minusTree f) (plusTree f) ≡ formLength f
