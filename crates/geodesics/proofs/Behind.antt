@@ -1,6 +1,6 @@
 -- A letter put behind a reduced form, and put behind its two lists of exponents, give one sum of Table 1. Assumes
 -- nothing.
-use mathlib.Core.Path.{_≡_, refl, _∙_, ap, ap₂, subst}
+use mathlib.Core.Path.{_≡_, refl, _∙_, ap, ap₂, subst, _≡⟨_⟩_, _∎}
 use mathlib.Core.List.{List, _∷_}
 use Prim.Native.Nat.{ℕ}
 use native.Mathlib.Omega.{arith}
@@ -69,7 +69,10 @@ reads-length h f r =
 pub behind-length : (f : Form) (x : Letter) → Canonical f
     → sidesLength (sidesOf (behindLetter f x)) ≡ sidesLength (putLetter (sidesOf f) x)
 behind-length f x c =
-    ap sidesLength (exchange-sides (timesLetter (inverseLetter x) (exchange f)))
-    ∙ reads-length (timesLetter (inverseLetter x) (exchange f)) (putLetter (turned (exchange f)) x)
-    (letter-reads (exchange f) x (exchange-canonical f c .reduced))
-    ∙ ap (λ (g : Sides). sidesLength (putLetter g x)) (turned-exchange f)
+    let g : Form = exchange f in
+    let h : Form = timesLetter (inverseLetter x) g in
+    let reads : Reads h (putLetter (turned g) x) = letter-reads g x (exchange-canonical f c .reduced) in
+    sidesLength (sidesOf (exchange h)) ≡⟨ ap sidesLength (exchange-sides h) ⟩
+    sidesLength (turned h) ≡⟨ reads-length h (putLetter (turned g) x) reads ⟩
+    sidesLength (putLetter (turned g) x) ≡⟨ ap (λ (s : Sides). sidesLength (putLetter s x)) (turned-exchange f) ⟩
+    sidesLength (putLetter (sidesOf f) x) ∎

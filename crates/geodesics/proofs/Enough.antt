@@ -1,7 +1,7 @@
 -- Any number of columns behind which both rows are closed gives the same sum of Table 1.
 --     BothClosed k f   both rows are closed behind k columns
 -- Assumes nothing.
-use mathlib.Core.Path.{_≡_, refl, sym, _∙_, ap, subst}
+use mathlib.Core.Path.{_≡_, refl, sym, _∙_, ap, subst, _≡⟨_⟩_, _∎}
 use mathlib.Core.List.{List, [], _∷_}
 use Prim.Native.Nat.{ℕ, zero, suc, _+_, _≤_}
 use native.Mathlib.Nat.{add-comm, suc-add, zero-add}
@@ -80,9 +80,10 @@ sum-plus (suc d) k f c =
 -- Any number of columns that closes the rows gives the length.
 pub sum-any : (k : ℕ) (f : Sides) → BothClosed k f → sumTo k f ≡ sidesLength f
 sum-any k f c =
-    sym (sum-plus (enough f) k f c)
-    ∙ ap (λ (n : ℕ). sumTo n f) (add-comm (enough f) k)
-    ∙ sum-plus k (enough f) f (both-closed f)
+    sumTo k f ≡⟨ sym (sum-plus (enough f) k f c) ⟩
+    sumTo (enough f + k) f ≡⟨ ap (λ (n : ℕ). sumTo n f) (add-comm (enough f) k) ⟩
+    sumTo (k + enough f) f ≡⟨ sum-plus k (enough f) f (both-closed f) ⟩
+    sidesLength f ∎
 
 -- And so does any number that is enough.
 pub sum-at : (k : ℕ) (f : Sides) → enough f ≤ k → sumTo k f ≡ sidesLength f

@@ -1,27 +1,28 @@
 -- Fordham's length of a form is the sum of Table 1 of its two lists of exponents (000, section 3.1; 001, Table 1).
 --     sidesOf f   the lists of exponents of a form
 -- Assumes nothing.
-use mathlib.Core.Path.{_≡_, refl, sym, _∙_, ap₂}
-use mathlib.Core.List.{List}
+use mathlib.Core.Path.{_≡_, refl, sym, _∙_, ap₂, _≡⟨_⟩_, _∎}
+use mathlib.Core.List.{List, _∷_}
 use Prim.Native.Nat.{ℕ, zero, suc, _≤_}
 use native.Mathlib.Nat.{zero-add}
 use native.Mathlib.Omega.{arith}
+use lib.ListN.{length}
 use Rattle.group.specs.Forms.{bSide, aSide, Form, exponents}
 use Rattle.trees.specs.Trees.{Tree, leaf, caret, carets}
 use Rattle.trees.specs.Building.{needed}
 use Rattle.trees.specs.Pairs.{caretsOf, minusTree, plusTree}
 use Rattle.trees.proofs.Readings.{exponentsOf}
 use Rattle.trees.proofs.Built.{tree-carets, tree-exponents}
-use Rattle.lengths.specs.Classes.{Class}
+use Rattle.lengths.specs.Classes.{Class, onLeft, classes}
 use Rattle.lengths.specs.Kinds.{laterKinds, kindsOf}
 use Rattle.lengths.specs.Weights.{weights, pairLength, formLength}
 use Rattle.geodesics.proofs.Columns.{columns}
 use Rattle.geodesics.proofs.ColumnSums.{columns-symmetric}
-use Rattle.geodesics.proofs.Rows.{first, rest, rowLabels, cost-columns}
-use Rattle.geodesics.proofs.Sides.{Sides, sides, fromOne, sidesLength}
+use Rattle.geodesics.proofs.Rows.{first, rest, Row, rowLabels, cost-columns}
+use Rattle.geodesics.proofs.Sides.{Sides, sides, fromOne, sumTo, sidesLength}
 use Rattle.geodesics.proofs.Enough.{BothClosed, sum-any}
 use Rattle.geodesics.proofs.SameRows.{length-same}
-use Rattle.geodesics.proofs.TwoTables.{laterSum, two-tables}
+use Rattle.geodesics.proofs.TwoTables.{LeftFirst, laterLabels, laterSum, two-tables}
 use Rattle.geodesics.proofs.TreeRows.{rowClasses, row-classes-length, tree-row, tree-closed}
 use Rattle.geodesics.proofs.RowLabels.{row-left-first, row-labels}
 
@@ -33,12 +34,17 @@ sidesOf f = sides (exponents bSide f) (exponents aSide f)
 pub row-sum : (n : ℕ) (es fs : List ℕ) → BothClosed n (sides fs es)
     → laterSum (rowClasses n (fromOne es)) (rowClasses n (fromOne fs)) ≡ sidesLength (sides fs es)
 row-sum n es fs c =
-    ap₂ columns
-    (row-labels n (first (rest es)) (first es) (rest (rest es)) (c .a-row))
-    (row-labels n (first (rest fs)) (first fs) (rest (rest fs)) (c .b-row))
-    ∙ columns-symmetric (rowLabels n (fromOne es)) (rowLabels n (fromOne fs))
-    ∙ sym (cost-columns n (fromOne fs) (fromOne es))
-    ∙ sum-any n (sides fs es) c
+    let u : Row = fromOne es in
+    let v : Row = fromOne fs in
+    let of-u : laterLabels (rowClasses n u) ≡ rowLabels n u =
+    row-labels n (first (rest es)) (first es) (rest (rest es)) (c .a-row) in
+    let of-v : laterLabels (rowClasses n v) ≡ rowLabels n v =
+    row-labels n (first (rest fs)) (first fs) (rest (rest fs)) (c .b-row) in
+    laterSum (rowClasses n u) (rowClasses n v) ≡⟨ ap₂ columns of-u of-v ⟩
+    columns (rowLabels n u) (rowLabels n v) ≡⟨ columns-symmetric (rowLabels n u) (rowLabels n v) ⟩
+    columns (rowLabels n v) (rowLabels n u) ≡⟨ sym (cost-columns n v u) ⟩
+    sumTo n (sides fs es) ≡⟨ sum-any n (sides fs es) c ⟩
+    sidesLength (sides fs es) ∎
 
 -- The rows of two trees of one size.
 pub pair-closed : (t s : Tree) (n : ℕ) → carets t ≡ suc n → carets s ≡ suc n
@@ -48,12 +54,15 @@ pair-closed t s n ht hs = record { b-row = tree-closed s n hs; a-row = tree-clos
 some-carets : (t s : Tree) (n : ℕ) → carets t ≡ suc n → carets s ≡ suc n
     → pairLength t s ≡ sidesLength (sides (exponentsOf s) (exponentsOf t))
 some-carets t s n ht hs =
-    ap₂ (λ (cs ds : List Class). weights (kindsOf cs) (kindsOf ds)) (sym (tree-row t n ht)) (sym (tree-row s n hs))
-    ∙ zero-add (weights (laterKinds cs) (laterKinds ds))
-    ∙ two-tables cs ds (row-classes-length n (fromOne es) ∙ sym (row-classes-length n (fromOne fs)))
-    (row-left-first n (first (rest es)) (first es) (rest (rest es)))
-    (row-left-first n (first (rest fs)) (first fs) (rest (rest fs)))
-    ∙ row-sum n es fs (pair-closed t s n ht hs)
+    weights (kindsOf (classes t)) (kindsOf (classes s))
+    ≡⟨ ap₂ (λ (xs ys : List Class). weights (kindsOf xs) (kindsOf ys)) (sym (tree-row t n ht)) (sym (tree-row s n hs)) ⟩
+    weights (kindsOf (onLeft ∷ cs)) (kindsOf (onLeft ∷ ds))
+    ≡⟨ zero-add (weights (laterKinds cs) (laterKinds ds)) ⟩
+    weights (laterKinds cs) (laterKinds ds)
+    ≡⟨ two-tables cs ds same-length left-first-cs left-first-ds ⟩
+    laterSum cs ds
+    ≡⟨ row-sum n es fs (pair-closed t s n ht hs) ⟩
+    sidesLength (sides fs es) ∎
   where
     es : List ℕ
     es = exponentsOf t
@@ -66,6 +75,15 @@ some-carets t s n ht hs =
 
     ds : List Class
     ds = rowClasses n (fromOne fs)
+
+    same-length : length cs ≡ length ds
+    same-length = row-classes-length n (fromOne es) ∙ sym (row-classes-length n (fromOne fs))
+
+    left-first-cs : LeftFirst cs
+    left-first-cs = row-left-first n (first (rest es)) (first es) (rest (rest es))
+
+    left-first-ds : LeftFirst ds
+    left-first-ds = row-left-first n (first (rest fs)) (first fs) (rest (rest fs))
 
 no-carets : (t s : Tree) → carets t ≡ 0 → carets s ≡ 0
     → pairLength t s ≡ sidesLength (sides (exponentsOf s) (exponentsOf t))

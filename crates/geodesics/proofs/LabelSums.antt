@@ -1,6 +1,6 @@
 -- The sum of Table 1 with the trailing columns R over R dropped, as specs/Labels.antt has it, is Fordham's length.
 -- Assumes nothing.
-use mathlib.Core.Path.{_≡_, refl, sym, _∙_, ap, ap₂}
+use mathlib.Core.Path.{_≡_, refl, sym, _∙_, ap, ap₂, _≡⟨_⟩_, _∎}
 use mathlib.Core.Bool.{Bool, true, false, cond}
 use mathlib.Core.List.{List, [], _∷_}
 use Prim.Native.Nat.{ℕ, zero, suc, _+_, _≤_}
@@ -29,7 +29,7 @@ use Rattle.geodesics.specs.Labels.{
 use Rattle.geodesics.proofs.Columns.{column, columns}
 use Rattle.geodesics.proofs.ColumnSums.{column-some}
 use Rattle.geodesics.proofs.Sides.{sides, fromOne, sidesLength}
-use Rattle.geodesics.proofs.TwoTables.{laterLabels}
+use Rattle.geodesics.proofs.TwoTables.{laterLabels, laterSum}
 use Rattle.geodesics.proofs.TreeRows.{rowClasses, tree-row}
 use Rattle.geodesics.proofs.Fordham.{row-sum, pair-closed, pair-length, same-carets}
 
@@ -96,9 +96,15 @@ pair-labels t s e = go (carets t) refl ∙ sym (pair-length t s e)
     go : (n : ℕ) → carets t ≡ n → labelLength t s ≡ sidesLength (sides (exponentsOf s) (exponentsOf t))
     go zero h = no-labels t s h (sym e ∙ h)
     go (suc n) h =
-        table-columns (labels t) (labels s)
-        ∙ ap₂ columns (tree-labels t n h) (tree-labels s n (sym e ∙ h))
-        ∙ row-sum n (exponentsOf t) (exponentsOf s) (pair-closed t s n h (sym e ∙ h))
+        let es : List ℕ = exponentsOf t in
+        let fs : List ℕ = exponentsOf s in
+        tableSum (labels t) (labels s)
+        ≡⟨ table-columns (labels t) (labels s) ⟩
+        columns (labels t) (labels s)
+        ≡⟨ ap₂ columns (tree-labels t n h) (tree-labels s n (sym e ∙ h)) ⟩
+        laterSum (rowClasses n (fromOne es)) (rowClasses n (fromOne fs))
+        ≡⟨ row-sum n es fs (pair-closed t s n h (sym e ∙ h)) ⟩
+        sidesLength (sides fs es) ∎
 
 -- The sum of Table 1 over the labels of a form is its length.
 pub form-labels : (f : Form) → labelLength (minusTree f) (plusTree f) ≡ formLength f

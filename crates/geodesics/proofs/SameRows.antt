@@ -1,5 +1,5 @@
 -- The sum of Table 1 depends on the entries of the two lists only, not on the zeros at their end. Assumes nothing.
-use mathlib.Core.Path.{_≡_, refl, sym, _∙_}
+use mathlib.Core.Path.{_≡_, refl, sym, _∙_, _≡⟨_⟩_, _∎}
 use mathlib.Core.List.{List, [], _∷_}
 use Prim.Native.Nat.{ℕ, zero, suc}
 use lib.ListN.{getD}
@@ -21,7 +21,11 @@ rest-at [] i = refl
 rest-at (e ∷ es) i = refl
 
 rest-same : (es fs : List ℕ) → SameEntries es fs → SameEntries (rest es) (rest fs)
-rest-same es fs h i = rest-at es i ∙ h (suc i) ∙ sym (rest-at fs i)
+rest-same es fs h i =
+    getD (rest es) i 0 ≡⟨ rest-at es i ⟩
+    getD es (suc i) 0 ≡⟨ h (suc i) ⟩
+    getD fs (suc i) 0 ≡⟨ sym (rest-at fs i) ⟩
+    getD (rest fs) i 0 ∎
 
 remaining-same : (n s l : ℕ) (es fs : List ℕ) → SameEntries es fs
     → remaining n (row s l es) ≡ remaining n (row s l fs)

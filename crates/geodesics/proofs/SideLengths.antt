@@ -1,7 +1,7 @@
 -- The sum of Table 1 of two lists of exponents: a letter put behind changes it by one, some letter lowers it, and its
 -- rows are closed behind as many columns as it is large.
 -- Assumes nothing.
-use mathlib.Core.Path.{_≡_, sym, _∙_, ap, subst₂}
+use mathlib.Core.Path.{_≡_, sym, _∙_, ap, subst₂, _≡⟨_⟩_, _∎}
 use mathlib.Core.Bool.{true, true≢false}
 use mathlib.Core.List.{List}
 use mathlib.Core.Logic.{_⊎_, inl, inr}
@@ -13,7 +13,7 @@ use Rattle.geodesics.specs.Labels.{'R, isR}
 use Rattle.geodesics.proofs.Columns.{column, ByOne}
 use Rattle.geodesics.proofs.ColumnSums.{Weighs, column-weighs}
 use Rattle.geodesics.proofs.Rows.{first, rest, Row, row, labelBy, rowLabel, nextRow, Closed, cost, closed-plus}
-use Rattle.geodesics.proofs.Sides.{Sides, putLetter, fromOne, enough, sidesLength}
+use Rattle.geodesics.proofs.Sides.{Sides, putLetter, fromOne, sumTo, enough, sidesLength}
 use Rattle.geodesics.proofs.LetterChanges.{letter-changes}
 use Rattle.geodesics.proofs.LetterLowers.{Lower, none, by, letter-lowers}
 use Rattle.geodesics.proofs.Enough.{first-total, fits, BothClosed, both-closed, sum-at}
@@ -42,7 +42,12 @@ put-lowers f = go (letter-lowers k f (fits k f (omega arith)))
     go : Lower k f → (sidesLength f ≡ 0) ⊎ ((x : Letter) × (sidesLength f ≡ suc (sidesLength (putLetter f x))))
     go (none h) = inl (sym (sum-at (suc k) f (omega arith)) ∙ h)
     go (by x h) =
-        inr (x, sym (sum-at (suc k) f (omega arith)) ∙ h ∙ ap suc (sum-at (suc k) (putLetter f x) (within x)))
+        let lowered : sidesLength f ≡ suc (sidesLength (putLetter f x)) =
+        sidesLength f ≡⟨ sym (sum-at (suc k) f (omega arith)) ⟩
+        sumTo (suc k) f ≡⟨ h ⟩
+        suc (sumTo (suc k) (putLetter f x)) ≡⟨ ap suc (sum-at (suc k) (putLetter f x) (within x)) ⟩
+        suc (sidesLength (putLetter f x)) ∎ in
+        inr (x, lowered)
 
 -- The label R says that nothing is open, to come, or opened next.
 label-R : (s l e : ℕ) → isR (labelBy s l e) ≡ true → s + (l + e) ≡ 0

@@ -1,7 +1,7 @@
 -- The classes of a tree's carets by the two counters, from its exponents (000, definition 2.7).
 --     rowClasses n r   the classes of n carets of a row
 -- Assumes nothing.
-use mathlib.Core.Path.{_≡_, refl, sym, _∙_, ap, ap₂}
+use mathlib.Core.Path.{_≡_, refl, sym, _∙_, ap, ap₂, _≡⟨_⟩_, _∎}
 use mathlib.Core.List.{List, [], _∷_, _++_, append-assoc}
 use Prim.Native.Nat.{ℕ, zero, suc, _+_}
 use native.Mathlib.Omega.{arith}
@@ -58,12 +58,20 @@ inside-row leaf k n o s l es hk ho =
     let d : o ≡ s = omega arith in
     ap₂ (λ (i j : ℕ). rowClasses i (row j l es)) c d
 inside-row (caret a b) k n o s l es hk ho =
-    ap (λ (x : List ℕ). rowClasses k (row o l x)) (append-assoc (later a) (leftEdge b ∷ later b) es)
-    ∙ inside-row a k (suc (carets b + n)) o (suc s) l (leftEdge b ∷ (later b ++ es)) (omega arith) (omega arith)
-    ∙ ap (λ (x : List Class). insideClasses a ++ x)
-    (ap₂ (λ (c : Class) (x : List Class). c ∷ x) (inside-by-edge b)
-    (inside-row b (carets b + n) n (leftEdge b + s) s l es refl refl))
-    ∙ sym (append-assoc (insideClasses a) (insideOver b ∷ insideClasses b) (rowClasses n (row s l es)))
+    let fs : List ℕ = leftEdge b ∷ (later b ++ es) in
+    let behind : List Class = rowClasses n (row s l es) in
+    let of-b : rowClasses (suc (carets b + n)) (row (suc s) l fs) ≡ insideOver b ∷ (insideClasses b ++ behind) =
+    ap₂ (λ (c : Class) (x : List Class). c ∷ x) (inside-by-edge b)
+    (inside-row b (carets b + n) n (leftEdge b + s) s l es refl refl) in
+    rowClasses k (row o l ((later a ++ (leftEdge b ∷ later b)) ++ es))
+    ≡⟨ ap (λ (x : List ℕ). rowClasses k (row o l x)) (append-assoc (later a) (leftEdge b ∷ later b) es) ⟩
+    rowClasses k (row o l (later a ++ fs))
+    ≡⟨ inside-row a k (suc (carets b + n)) o (suc s) l fs (omega arith) (omega arith) ⟩
+    insideClasses a ++ rowClasses (suc (carets b + n)) (row (suc s) l fs)
+    ≡⟨ ap (λ (x : List Class). insideClasses a ++ x) of-b ⟩
+    insideClasses a ++ (insideOver b ∷ (insideClasses b ++ behind))
+    ≡⟨ sym (append-assoc (insideClasses a) (insideOver b ∷ insideClasses b) behind) ⟩
+    insideClasses (caret a b) ++ behind ∎
 
 inside-remaining : (t : Tree) (k n o s l : ℕ) (es : List ℕ) → k ≡ carets t + n → o ≡ leftEdge t + s
     → remaining k (row o l (later t ++ es)) ≡ remaining n (row s l es)
@@ -72,9 +80,14 @@ inside-remaining leaf k n o s l es hk ho =
     let d : o ≡ s = omega arith in
     ap₂ (λ (i j : ℕ). remaining i (row j l es)) c d
 inside-remaining (caret a b) k n o s l es hk ho =
-    ap (λ (x : List ℕ). remaining k (row o l x)) (append-assoc (later a) (leftEdge b ∷ later b) es)
-    ∙ inside-remaining a k (suc (carets b + n)) o (suc s) l (leftEdge b ∷ (later b ++ es)) (omega arith) (omega arith)
-    ∙ inside-remaining b (carets b + n) n (leftEdge b + s) s l es refl refl
+    let fs : List ℕ = leftEdge b ∷ (later b ++ es) in
+    remaining k (row o l ((later a ++ (leftEdge b ∷ later b)) ++ es))
+    ≡⟨ ap (λ (x : List ℕ). remaining k (row o l x)) (append-assoc (later a) (leftEdge b ∷ later b) es) ⟩
+    remaining k (row o l (later a ++ fs))
+    ≡⟨ inside-remaining a k (suc (carets b + n)) o (suc s) l fs (omega arith) (omega arith) ⟩
+    remaining (suc (carets b + n)) (row (suc s) l fs)
+    ≡⟨ inside-remaining b (carets b + n) n (leftEdge b + s) s l es refl refl ⟩
+    remaining n (row s l es) ∎
 
 -- The row of a subtree of the left side.
 left-row : (t : Tree) (k n m l : ℕ) (es : List ℕ) → k ≡ carets t + n → m ≡ leftEdge t + l
@@ -84,11 +97,19 @@ left-row leaf k n m l es hk hm =
     let d : m ≡ l = omega arith in
     ap₂ (λ (i j : ℕ). rowClasses i (row 0 j es)) c d
 left-row (caret a b) k n m l es hk hm =
-    ap (λ (x : List ℕ). rowClasses k (row 0 m x)) (append-assoc (later a) (leftEdge b ∷ later b) es)
-    ∙ left-row a k (suc (carets b + n)) m (suc l) (leftEdge b ∷ (later b ++ es)) (omega arith) (omega arith)
-    ∙ ap (λ (x : List Class). leftClasses a ++ (onLeft ∷ x))
-    (inside-row b (carets b + n) n (leftEdge b) 0 l es refl (omega arith))
-    ∙ sym (append-assoc (leftClasses a) (onLeft ∷ insideClasses b) (rowClasses n (row 0 l es)))
+    let fs : List ℕ = leftEdge b ∷ (later b ++ es) in
+    let behind : List Class = rowClasses n (row 0 l es) in
+    let of-b : rowClasses (carets b + n) (row (leftEdge b) l (later b ++ es)) ≡ insideClasses b ++ behind =
+    inside-row b (carets b + n) n (leftEdge b) 0 l es refl (omega arith) in
+    rowClasses k (row 0 m ((later a ++ (leftEdge b ∷ later b)) ++ es))
+    ≡⟨ ap (λ (x : List ℕ). rowClasses k (row 0 m x)) (append-assoc (later a) (leftEdge b ∷ later b) es) ⟩
+    rowClasses k (row 0 m (later a ++ fs))
+    ≡⟨ left-row a k (suc (carets b + n)) m (suc l) fs (omega arith) (omega arith) ⟩
+    leftClasses a ++ rowClasses (suc (carets b + n)) (row 0 (suc l) fs)
+    ≡⟨ ap (λ (x : List Class). leftClasses a ++ (onLeft ∷ x)) of-b ⟩
+    leftClasses a ++ (onLeft ∷ (insideClasses b ++ behind))
+    ≡⟨ sym (append-assoc (leftClasses a) (onLeft ∷ insideClasses b) behind) ⟩
+    leftClasses (caret a b) ++ behind ∎
 
 left-remaining : (t : Tree) (k n m l : ℕ) (es : List ℕ) → k ≡ carets t + n → m ≡ leftEdge t + l
     → remaining k (row 0 m (later t ++ es)) ≡ remaining n (row 0 l es)
@@ -97,9 +118,14 @@ left-remaining leaf k n m l es hk hm =
     let d : m ≡ l = omega arith in
     ap₂ (λ (i j : ℕ). remaining i (row 0 j es)) c d
 left-remaining (caret a b) k n m l es hk hm =
-    ap (λ (x : List ℕ). remaining k (row 0 m x)) (append-assoc (later a) (leftEdge b ∷ later b) es)
-    ∙ left-remaining a k (suc (carets b + n)) m (suc l) (leftEdge b ∷ (later b ++ es)) (omega arith) (omega arith)
-    ∙ inside-remaining b (carets b + n) n (leftEdge b) 0 l es refl (omega arith)
+    let fs : List ℕ = leftEdge b ∷ (later b ++ es) in
+    remaining k (row 0 m ((later a ++ (leftEdge b ∷ later b)) ++ es))
+    ≡⟨ ap (λ (x : List ℕ). remaining k (row 0 m x)) (append-assoc (later a) (leftEdge b ∷ later b) es) ⟩
+    remaining k (row 0 m (later a ++ fs))
+    ≡⟨ left-remaining a k (suc (carets b + n)) m (suc l) fs (omega arith) (omega arith) ⟩
+    remaining (suc (carets b + n)) (row 0 (suc l) fs)
+    ≡⟨ inside-remaining b (carets b + n) n (leftEdge b) 0 l es refl (omega arith) ⟩
+    remaining n (row 0 l es) ∎
 
 -- The row of a subtree of the right side, to the end.
 right-row : (t : Tree) → rowClasses (carets t) (row (first (exponentsOf t)) 0 (rest (exponentsOf t))) ≡ rightClasses t

@@ -2,7 +2,7 @@
 -- Table 1). The tables agree but at R0 over R0, which is a dropped column.
 --     LeftFirst cs   no caret of the left side stands behind one of the right side
 -- Assumes nothing.
-use mathlib.Core.Path.{_≡_, refl, sym, _∙_, ap}
+use mathlib.Core.Path.{_≡_, refl, sym, ap, _≡⟨_⟩_, _∎}
 use mathlib.Core.Bool.{Bool, true, false, true≢false}
 use mathlib.Core.List.{List, [], _∷_}
 use Prim.Native.Nat.{ℕ, zero, suc, _+_, _≤_}
@@ -102,7 +102,10 @@ Agree k j s = weight k j + s ≡ column (labelOf k) (labelOf j) s
 
 agree-turned : (k j : Kind) (s : ℕ) → Agree k j s → Agree j k s
 agree-turned k j s h =
-    ap (λ (n : ℕ). n + s) (weight-symmetric j k) ∙ h ∙ column-symmetric (labelOf k) (labelOf j) s
+    weight j k + s ≡⟨ ap (λ (n : ℕ). n + s) (weight-symmetric j k) ⟩
+    weight k j + s ≡⟨ h ⟩
+    column (labelOf k) (labelOf j) s ≡⟨ column-symmetric (labelOf k) (labelOf j) s ⟩
+    column (labelOf j) (labelOf k) s ∎
 
 right-left : (p q : Bool) (s : ℕ) → Agree (rightKind p q) LL s
 right-left true q s = refl

@@ -1,6 +1,6 @@
 -- Of a word: a letter put behind it changes the length of its form by one, some letter lowers it, and only the identity
 -- has length 0 (000, lemma 3.1, properties 1 to 4). Assumes nothing.
-use mathlib.Core.Path.{_≡_, refl, sym, _∙_, ap}
+use mathlib.Core.Path.{_≡_, refl, sym, _∙_, ap, _≡⟨_⟩_, _∎}
 use mathlib.Core.List.{[], _∷_, _++_}
 use mathlib.Core.Logic.{_⊎_, inl, inr}
 use Prim.Native.Nat.{ℕ, zero, suc}
@@ -8,7 +8,7 @@ use native.Mathlib.Omega.{arith}
 use Rattle.lists.specs.Entries.{total}
 use Rattle.group.specs.Letters.{Letter, Word}
 use Rattle.group.specs.Forms.{Side, bSide, aSide, Form, empty, level, exponent, exponents, SameExponents, Trimmed}
-use Rattle.group.specs.Products.{formOf}
+use Rattle.group.specs.Products.{formOf, behindLetter}
 use Rattle.group.proofs.Exponents.{trimmed-equal}
 use Rattle.group.proofs.Reduced.{form-canonical, form-trimmed}
 use Rattle.group.proofs.Exchange.{form-behind}
@@ -28,9 +28,13 @@ word-length w = sym (form-length (formOf w))
 letter-length : (w : Word) (x : Letter)
     → sidesLength (putLetter (sidesOf (formOf w)) x) ≡ formLength (formOf (w ++ (x ∷ [])))
 letter-length w x =
-    sym (behind-length (formOf w) x (form-canonical w))
-    ∙ ap (λ (f : Form). sidesLength (sidesOf f)) (sym (form-behind w x))
-    ∙ word-length (w ++ (x ∷ []))
+    sidesLength (putLetter (sidesOf (formOf w)) x)
+    ≡⟨ sym (behind-length (formOf w) x (form-canonical w)) ⟩
+    sidesLength (sidesOf (behindLetter (formOf w) x))
+    ≡⟨ ap (λ (f : Form). sidesLength (sidesOf f)) (sym (form-behind w x)) ⟩
+    sidesLength (sidesOf (formOf (w ++ (x ∷ []))))
+    ≡⟨ word-length (w ++ (x ∷ [])) ⟩
+    formLength (formOf (w ++ (x ∷ []))) ∎
 
 -- A letter behind.
 pub behind-by-one : LetterChangesByOne
@@ -39,8 +43,18 @@ behind-by-one w x = go (put-changes (sidesOf (formOf w)) x)
     go : ByOne (sidesLength (putLetter (sidesOf (formOf w)) x)) (sidesLength (sidesOf (formOf w)))
         → (formLength (formOf (w ++ (x ∷ []))) ≡ suc (formLength (formOf w)))
         ⊎ (formLength (formOf w) ≡ suc (formLength (formOf (w ++ (x ∷ [])))))
-    go (up h) = inl (sym (letter-length w x) ∙ h ∙ ap suc (word-length w))
-    go (down h) = inr (sym (word-length w) ∙ h ∙ ap suc (letter-length w x))
+    go (up h) =
+        inl
+        (formLength (formOf (w ++ (x ∷ []))) ≡⟨ sym (letter-length w x) ⟩
+        sidesLength (putLetter (sidesOf (formOf w)) x) ≡⟨ h ⟩
+        suc (sidesLength (sidesOf (formOf w))) ≡⟨ ap suc (word-length w) ⟩
+        suc (formLength (formOf w)) ∎)
+    go (down h) =
+        inr
+        (formLength (formOf w) ≡⟨ sym (word-length w) ⟩
+        sidesLength (sidesOf (formOf w)) ≡⟨ h ⟩
+        suc (sidesLength (putLetter (sidesOf (formOf w)) x)) ≡⟨ ap suc (letter-length w x) ⟩
+        suc (formLength (formOf (w ++ (x ∷ [])))) ∎)
 
 -- A letter that lowers the length.
 pub behind-lowers : SomeLetterLowers
@@ -52,7 +66,14 @@ behind-lowers w = go (put-lowers (sidesOf (formOf w)))
         → (formLength (formOf w) ≡ 0)
         ⊎ ((x : Letter) × (formLength (formOf w) ≡ suc (formLength (formOf (w ++ (x ∷ []))))))
     go (inl h) = inl (sym (word-length w) ∙ h)
-    go (inr h) = inr (h .0, sym (word-length w) ∙ h .1 ∙ ap suc (letter-length w (h .0)))
+    go (inr h) =
+        let x : Letter = h .0 in
+        let lowered : formLength (formOf w) ≡ suc (formLength (formOf (w ++ (x ∷ [])))) =
+        formLength (formOf w) ≡⟨ sym (word-length w) ⟩
+        sidesLength (sidesOf (formOf w)) ≡⟨ h .1 ⟩
+        suc (sidesLength (putLetter (sidesOf (formOf w)) x)) ≡⟨ ap suc (letter-length w x) ⟩
+        suc (formLength (formOf (w ++ (x ∷ [])))) ∎ in
+        inr (x, lowered)
 
 -- A form whose exponents sum to 0 has those of the empty form.
 no-exponents : (s : Side) (f : Form) → total (exponents s f) ≡ 0 → (i : ℕ) → exponent s f i ≡ exponent s empty i

@@ -1,5 +1,5 @@
 -- Joined words have the same map, and the map of a form level by level. Assumes nothing.
-use mathlib.Core.Path.{_≡_, refl, sym, _∙_, ap}
+use mathlib.Core.Path.{_≡_, refl, sym, _∙_, ap, _≡⟨_⟩_, _∎}
 use mathlib.Core.List.{[], _∷_, _++_, append-nil}
 use Prim.Native.Nat.{ℕ, zero, suc}
 use lib.ListN.{replicate}
@@ -68,13 +68,15 @@ act-σ [] p = sym (lift-id p)
 act-σ ('a ∷ w) p = ap (lift map-a) (act-σ w p) ∙ lift-lift map-a (act w) p
 act-σ ('A ∷ w) p = ap (lift map-A) (act-σ w p) ∙ lift-lift map-A (act w) p
 act-σ ('b ∷ w) p =
-    ap (λ q. map-A (lift map-a (map-a q))) (act-σ w p)
-    ∙ lift-conjugate map-a (lift (act w) p)
-    ∙ lift-lift (lift map-a) (act w) p
+    map-A (lift map-a (map-a (act (σ w) p))) ≡⟨ ap (λ q. map-A (lift map-a (map-a q))) (act-σ w p) ⟩
+    map-A (lift map-a (map-a (lift (act w) p))) ≡⟨ lift-conjugate map-a (lift (act w) p) ⟩
+    lift (lift map-a) (lift (act w) p) ≡⟨ lift-lift (lift map-a) (act w) p ⟩
+    lift (act ('b ∷ w)) p ∎
 act-σ ('B ∷ w) p =
-    ap (λ q. map-A (lift map-A (map-a q))) (act-σ w p)
-    ∙ lift-conjugate map-A (lift (act w) p)
-    ∙ lift-lift (lift map-A) (act w) p
+    map-A (lift map-A (map-a (act (σ w) p))) ≡⟨ ap (λ q. map-A (lift map-A (map-a q))) (act-σ w p) ⟩
+    map-A (lift map-A (map-a (lift (act w) p))) ≡⟨ lift-conjugate map-A (lift (act w) p) ⟩
+    lift (lift map-A) (lift (act w) p) ≡⟨ lift-lift (lift map-A) (act w) p ⟩
+    lift (act ('B ∷ w)) p ∎
 
 -- A map, n times.
 abbrev pub iter : (Inner → Inner) → ℕ → Inner → Inner
@@ -96,12 +98,14 @@ act-power-alone x n p = ap (λ (w : Word). act w p) (sym (append-nil (replicate 
 act-levels : (f : Form) (p : Inner) → act (spellLevels f) p ≡ levelsMap f p
 act-levels empty p = refl
 act-levels (level b a f) p =
-    act-power 'a b (σ (spellLevels f) ++ replicate a 'A) p
-    ∙ ap (iter map-a b)
-    (act-append (σ (spellLevels f)) (replicate a 'A) p
-    ∙ act-σ (spellLevels f) (act (replicate a 'A) p)
-    ∙ ap (lift (act (spellLevels f))) (act-power-alone 'A a p)
-    ∙ lift-cong (act-levels f) (iter map-A a p))
+    let w : Word = spellLevels f in
+    let v : Word = replicate a 'A in
+    act (replicate b 'a ++ (σ w ++ v)) p ≡⟨ act-power 'a b (σ w ++ v) p ⟩
+    iter map-a b (act (σ w ++ v) p) ≡⟨ ap (iter map-a b) (act-append (σ w) v p) ⟩
+    iter map-a b (act (σ w) (act v p)) ≡⟨ ap (iter map-a b) (act-σ w (act v p)) ⟩
+    iter map-a b (lift (act w) (act v p)) ≡⟨ ap (λ q. iter map-a b (lift (act w) q)) (act-power-alone 'A a p) ⟩
+    iter map-a b (lift (act w) (iter map-A a p)) ≡⟨ ap (iter map-a b) (lift-cong (act-levels f) (iter map-A a p)) ⟩
+    iter map-a b (lift (levelsMap f) (iter map-A a p)) ∎
 
 -- The map of a form's letters.
 pub act-letters : (f : Form) (p : Inner) → act (letters f) p ≡ levelsMap f p

@@ -1,6 +1,6 @@
 -- Two words have the same map at every dyadic point from 0 to 1 just when they move every inner point alike; the ends
 -- are fixed, and the zeros behind a point's last digit make no difference. Assumes nothing.
-use mathlib.Core.Path.{_≡_, refl, sym, _∙_, ap, subst, subst₂}
+use mathlib.Core.Path.{_≡_, refl, sym, _∙_, ap, subst, subst₂, _≡⟨_⟩_, _∎}
 use mathlib.Core.List.{List, [], _∷_}
 use Prim.Native.Nat.{ℕ, zero, suc}
 use native.Mathlib.Omega.{arith}
@@ -30,9 +30,10 @@ map-end1 (x ∷ w) = ap (moveLetter x) (map-end1 w)
 pub move-all-value : (w : Word) (p : List Digit) → value (moveAll w p) ≡ onInner (act w) (value p)
 move-all-value [] p = sym (on-inner-id (value p))
 move-all-value (x ∷ w) p =
-    move-digits-value x (moveAll w p)
-    ∙ ap (onInner (letterMap x)) (move-all-value w p)
-    ∙ on-inner-twice (letterMap x) (act w) (value p)
+    value (moveDigits x (moveAll w p)) ≡⟨ move-digits-value x (moveAll w p) ⟩
+    onInner (letterMap x) (value (moveAll w p)) ≡⟨ ap (onInner (letterMap x)) (move-all-value w p) ⟩
+    onInner (letterMap x) (onInner (act w) (value p)) ≡⟨ on-inner-twice (letterMap x) (act w) (value p) ⟩
+    onInner (act (x ∷ w)) (value p) ∎
 
 -- The digits of a value, at every place.
 abbrev innerDigit : Inner → ℕ → Digit
@@ -63,9 +64,10 @@ digit-value : (p : List Digit) (n : ℕ) → digitAt p n ≡ lowDigit (value p) 
 digit-value p zero =
     sym (ap (λ c. lowDigit c 0) (sym (value-1 p)) ∙ with-digit-first (firstDigit p) (value (laterDigits p)))
 digit-value p (suc n) =
-    digit-value (laterDigits p) n
-    ∙ sym (with-digit-later (firstDigit p) (value (laterDigits p)) n)
-    ∙ ap (λ c. lowDigit c (suc n)) (value-1 p)
+    digitAt (laterDigits p) n ≡⟨ digit-value (laterDigits p) n ⟩
+    lowDigit (value (laterDigits p)) n ≡⟨ sym (with-digit-later (firstDigit p) (value (laterDigits p)) n) ⟩
+    lowDigit (value (firstDigit p ∷ laterDigits p)) (suc n) ≡⟨ ap (λ c. lowDigit c (suc n)) (value-1 p) ⟩
+    lowDigit (value p) (suc n) ∎
 
 -- Values with the same digits are the same.
 digits-differ : 𝟎 ≡ 𝟏 → ⊥
@@ -108,11 +110,21 @@ low-equal (inside p) (inside q) h = ap inside (inner-equal p q h)
 
 -- Digits of one point have one value.
 same→value : (p q : List Digit) → SamePoint (below1 p) (below1 q) → value p ≡ value q
-same→value p q h = low-equal (value p) (value q) (λ n. sym (digit-value p n) ∙ h n ∙ digit-value q n)
+same→value p q h =
+    low-equal (value p) (value q)
+    (λ n.
+    lowDigit (value p) n ≡⟨ sym (digit-value p n) ⟩
+    digitAt p n ≡⟨ h n ⟩
+    digitAt q n ≡⟨ digit-value q n ⟩
+    lowDigit (value q) n ∎)
 
 -- Digits of one value are one point.
 pub value→same : (p q : List Digit) → value p ≡ value q → SamePoint (below1 p) (below1 q)
-value→same p q e n = digit-value p n ∙ ap (λ c. lowDigit c n) e ∙ sym (digit-value q n)
+value→same p q e n =
+    digitAt p n ≡⟨ digit-value p n ⟩
+    lowDigit (value p) n ≡⟨ ap (λ c. lowDigit c n) e ⟩
+    lowDigit (value q) n ≡⟨ sym (digit-value q n) ⟩
+    digitAt q n ∎
 
 -- The ends are fixed, and the zeros behind the last digit make no difference.
 pub map-1 : (w : Word) → SamePoint (mapOf w end1) end1
@@ -130,14 +142,20 @@ map-respects w (below1 p) end1 h = absurd h
 map-respects w (below1 p) (below1 q) h =
     subst₂ SamePoint (sym (map-below1 w p)) (sym (map-below1 w q))
     (value→same (moveAll w p) (moveAll w q)
-    (move-all-value w p ∙ ap (onInner (act w)) (same→value p q h) ∙ sym (move-all-value w q)))
+    (value (moveAll w p) ≡⟨ move-all-value w p ⟩
+    onInner (act w) (value p) ≡⟨ ap (onInner (act w)) (same→value p q h) ⟩
+    onInner (act w) (value q) ≡⟨ sym (move-all-value w q) ⟩
+    value (moveAll w q) ∎))
 
 pub act→map : (u v : Word) → ((p : Inner) → act u p ≡ act v p) → SameMap u v
 act→map u v h end1 = subst₂ SamePoint (sym (map-end1 u)) (sym (map-end1 v)) tt
 act→map u v h (below1 p) =
     subst₂ SamePoint (sym (map-below1 u p)) (sym (map-below1 v p))
     (value→same (moveAll u p) (moveAll v p)
-    (move-all-value u p ∙ on-inner-cong (act u) (act v) h (value p) ∙ sym (move-all-value v p)))
+    (value (moveAll u p) ≡⟨ move-all-value u p ⟩
+    onInner (act u) (value p) ≡⟨ on-inner-cong (act u) (act v) h (value p) ⟩
+    onInner (act v) (value p) ≡⟨ sym (move-all-value v p) ⟩
+    value (moveAll v p) ∎))
 
 inside-injective : (p q : Inner) → inside p ≡ inside q → p ≡ q
 inside-injective p q e = cc
@@ -149,7 +167,10 @@ act-value w p = move-all-value w (digits p) ∙ ap (onInner (act w)) (value-digi
 pub map→act : (u v : Word) → SameMap u v → (p : Inner) → act u p ≡ act v p
 map→act u v h p =
     inside-injective (act u p) (act v p)
-    (sym (act-value u p) ∙ same→value (moveAll u (digits p)) (moveAll v (digits p)) same ∙ act-value v p)
+    (inside (act u p) ≡⟨ sym (act-value u p) ⟩
+    value (moveAll u (digits p)) ≡⟨ same→value (moveAll u (digits p)) (moveAll v (digits p)) same ⟩
+    value (moveAll v (digits p)) ≡⟨ act-value v p ⟩
+    inside (act v p) ∎)
   where
     same : SamePoint (below1 (moveAll u (digits p))) (below1 (moveAll v (digits p)))
     same = subst₂ SamePoint (map-below1 u (digits p)) (map-below1 v (digits p)) (h (below1 (digits p)))

@@ -1,7 +1,7 @@
 -- The form of an inverse is the form with its sides exchanged, and a letter put behind a form is its inverse put in
 -- front, between two exchanges. The letters of an exchanged form are the inverse of the form's letters, letter for
 -- letter. Assumes nothing.
-use mathlib.Core.Path.{_≡_, refl, sym, _∙_, ap, ap₂}
+use mathlib.Core.Path.{_≡_, refl, sym, _∙_, ap, ap₂, _≡⟨_⟩_, _∎}
 use mathlib.Core.List.{[], _∷_, _++_}
 use mathlib.Core.Logic.{inl, inr}
 use Prim.Native.Nat.{ℕ, zero, suc}
@@ -52,17 +52,25 @@ exchange-canonical f c =
 inverse-copies : (n : ℕ) (w : Word) → inverse (copies n w) ≡ copies n (inverse w)
 inverse-copies zero w = refl
 inverse-copies (suc n) w =
-    inverse-append w (copies n w)
-    ∙ ap (λ (u : Word). u ++ inverse w) (inverse-copies n w)
-    ∙ copies-past n (inverse w)
+    inverse (w ++ copies n w) ≡⟨ inverse-append w (copies n w) ⟩
+    inverse (copies n w) ++ inverse w ≡⟨ ap (λ (u : Word). u ++ inverse w) (inverse-copies n w) ⟩
+    copies n (inverse w) ++ inverse w ≡⟨ copies-past n (inverse w) ⟩
+    inverse w ++ copies n (inverse w) ∎
 
 ascending-exchange : (k : ℕ) (f : Form) → ascending k (exchange f) ≡ inverse (descending k f)
 ascending-exchange k empty = refl
 ascending-exchange k (level b a f) =
-    ap₂ (λ (u v : Word). u ++ v)
-    (ap (copies a) (sym (inverse-twice (generator k))) ∙ sym (inverse-copies a (inverse (generator k))))
-    (ascending-exchange (suc k) f)
-    ∙ sym (inverse-append (descending (suc k) f) (copies a (inverse (generator k))))
+    let x : Word = generator k in
+    let v : Word = descending (suc k) f in
+    copies a x ++ ascending (suc k) (exchange f)
+    ≡⟨ ap (λ (u : Word). copies a x ++ u) (ascending-exchange (suc k) f) ⟩
+    copies a x ++ inverse v
+    ≡⟨ ap (λ (u : Word). copies a u ++ inverse v) (sym (inverse-twice x)) ⟩
+    copies a (inverse (inverse x)) ++ inverse v
+    ≡⟨ ap (λ (u : Word). u ++ inverse v) (sym (inverse-copies a (inverse x))) ⟩
+    inverse (copies a (inverse x)) ++ inverse v
+    ≡⟨ sym (inverse-append v (copies a (inverse x))) ⟩
+    inverse (v ++ copies a (inverse x)) ∎
 
 descending-exchange : (k : ℕ) (f : Form) → descending k (exchange f) ≡ inverse (ascending k f)
 descending-exchange k empty = refl

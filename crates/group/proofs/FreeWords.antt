@@ -4,7 +4,7 @@
 --     Apart x w   w does not begin with the inverse of x      NoPairs w   no two neighbours of w are inverse
 --     Pair        the four strings x x⁻¹, for `Congruent`
 -- Assumes nothing.
-use mathlib.Core.Path.{_≡_, refl, sym, _∙_, ap}
+use mathlib.Core.Path.{_≡_, refl, sym, _∙_, ap, _≡⟨_⟩_, _∎}
 use mathlib.Core.List.{[], _∷_, _++_}
 use Rattle.group.specs.Letters.{Letter, 'a, 'A, 'b, 'B, sameLetter, Word, inverseLetter}
 use Rattle.group.specs.FreeReduction.{pushOn, push, freely}
@@ -62,7 +62,10 @@ push-undo x (y ∷ w) h = go (sameLetter y (inverseLetter (inverseLetter x)))
   where
     go : (d : Dec (y ≡ inverseLetter (inverseLetter x))) → push x (pushOn (inverseLetter x) y d w) ≡ y ∷ w
     go (yes e) =
-        ap (λ (z : Letter). push z w) (sym (e ∙ inverse-letter-twice x)) ∙ push-apart y w (h .0)
+        push x w ≡⟨ ap (λ (z : Letter). push z w) (sym (inverse-letter-twice x)) ⟩
+        push (inverseLetter (inverseLetter x)) w ≡⟨ ap (λ (z : Letter). push z w) (sym e) ⟩
+        push y w ≡⟨ push-apart y w (h .0) ⟩
+        y ∷ w ∎
     go (no n) = push-pair x (y ∷ w)
 
 -- Congruent words have the same freely reduced word.

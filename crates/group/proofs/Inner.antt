@@ -2,7 +2,7 @@
 -- has one such name, while it has many as digits with zeros behind them.
 --     half, lower p, upper p   1/2, p behind a digit 0, p behind a digit 1      lift g   g behind a digit 1
 -- b is a behind a digit 1, so that x_(k+1) is x_k behind a digit 1. Assumes nothing.
-use mathlib.Core.Path.{_≡_, refl, _∙_, ap}
+use mathlib.Core.Path.{_≡_, refl, ap, _≡⟨_⟩_, _∎}
 use mathlib.Core.List.{[], _∷_, _++_}
 use Rattle.group.specs.Letters.{Letter, 'a, 'A, 'b, 'B, Word, inverseLetter, inverse}
 
@@ -80,7 +80,11 @@ lift-conjugate g (upper (lower p)) = refl
 lift-conjugate g (upper (upper p)) = refl
 
 lift-undo : (f g : Inner → Inner) → ((p : Inner) → f (g p) ≡ p) → (p : Inner) → lift f (lift g p) ≡ p
-lift-undo f g h p = lift-lift f g p ∙ lift-cong h p ∙ lift-id p
+lift-undo f g h p =
+    lift f (lift g p) ≡⟨ lift-lift f g p ⟩
+    lift (λ q. f (g q)) p ≡⟨ lift-cong h p ⟩
+    lift (λ q. q) p ≡⟨ lift-id p ⟩
+    p ∎
 
 -- A letter undoes its inverse.
 pub letter-undo : (x : Letter) (p : Inner) → letterMap x (letterMap (inverseLetter x) p) ≡ p
@@ -96,6 +100,10 @@ act-append (x ∷ u) v p = ap (letterMap x) (act-append u v p)
 pub act-undo : (w : Word) (p : Inner) → act w (act (inverse w) p) ≡ p
 act-undo [] p = refl
 act-undo (x ∷ w) p =
-    ap (λ q. letterMap x (act w q)) (act-append (inverse w) (inverseLetter x ∷ []) p)
-    ∙ ap (letterMap x) (act-undo w (letterMap (inverseLetter x) p))
-    ∙ letter-undo x p
+    letterMap x (act w (act (inverse w ++ (inverseLetter x ∷ [])) p))
+    ≡⟨ ap (λ q. letterMap x (act w q)) (act-append (inverse w) (inverseLetter x ∷ []) p) ⟩
+    letterMap x (act w (act (inverse w) (letterMap (inverseLetter x) p)))
+    ≡⟨ ap (letterMap x) (act-undo w (letterMap (inverseLetter x) p)) ⟩
+    letterMap x (letterMap (inverseLetter x) p)
+    ≡⟨ letter-undo x p ⟩
+    p ∎

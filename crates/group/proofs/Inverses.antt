@@ -1,6 +1,6 @@
 -- Inverses of words: laws of `inverse`, and a word with its inverse behind or in front of it cancels.
 -- The congruence may be any one that has the four pairs x x⁻¹. Assumes nothing.
-use mathlib.Core.Path.{_≡_, refl, sym, _∙_, ap, ap₂}
+use mathlib.Core.Path.{_≡_, refl, sym, _∙_, ap, ap₂, _≡⟨_⟩_, _∎}
 use mathlib.Core.List.{[], _∷_, _++_, append-assoc, append-nil}
 use Prim.Native.Nat.{ℕ, zero, suc}
 use lib.ListN.{replicate}
@@ -30,9 +30,11 @@ inverse-twice (x ∷ w) =
 pub inverse-replicate : (n : ℕ) (x : Letter) → inverse (replicate n x) ≡ replicate n (inverseLetter x)
 inverse-replicate zero x = refl
 inverse-replicate (suc n) x =
-    ap (λ (w : Word). w ++ (inverseLetter x ∷ [])) (inverse-replicate n x)
-    ∙ replicate-past n (inverseLetter x) []
-    ∙ ap (λ (w : Word). inverseLetter x ∷ w) (append-nil (replicate n (inverseLetter x)))
+    let y : Letter = inverseLetter x in
+    inverse (replicate n x) ++ (y ∷ []) ≡⟨ ap (λ (w : Word). w ++ (y ∷ [])) (inverse-replicate n x) ⟩
+    replicate n y ++ (y ∷ []) ≡⟨ replicate-past n y [] ⟩
+    y ∷ (replicate n y ++ []) ≡⟨ ap (λ (w : Word). y ∷ w) (append-nil (replicate n y)) ⟩
+    replicate (suc n) y ∎
 
 -- The four pairs x x⁻¹ are among the strings.
 abbrev pub HasPairs : Strings → Type 0

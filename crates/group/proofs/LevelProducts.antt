@@ -1,6 +1,6 @@
 -- A generator times a form whose first level `reduceLevel` put there, and that form's exponents where no reducing step
 -- applies: what a reader of forms level by level asks of products. Assumes nothing.
-use mathlib.Core.Path.{_≡_, refl, sym, _∙_, ap}
+use mathlib.Core.Path.{_≡_, refl, sym, _∙_, ap, _≡⟨_⟩_, _∎}
 use Prim.Native.Nat.{ℕ, zero, suc, _+_, _<_}
 use native.Mathlib.Omega.{arith}
 use Rattle.group.specs.Forms.{Side, bSide, aSide, Form, empty, level, exponent, SameExponents, Trimmed}
@@ -55,9 +55,13 @@ times-past s k (suc b) (suc j) (suc a) empty e =
     times-past s k b j a empty (omega arith) ∙ sym (reduce-level-step b a (single s j))
 times-past s k (suc b) (suc j) (suc a) (level zero zero f) e =
     let c : j ≡ j + 0 = omega arith in
-    times-past s k b j a f (omega arith)
-    ∙ sym (reduce-level-step b a (timesGenerator s j f))
-    ∙ ap (λ (i : ℕ). reduceLevel (suc b) (suc a) (reduceLevel 0 0 (timesGenerator s i f))) c
+    timesGenerator s (suc k) (reduceLevel b a f)
+    ≡⟨ times-past s k b j a f (omega arith) ⟩
+    reduceLevel b a (timesGenerator s j f)
+    ≡⟨ sym (reduce-level-step b a (timesGenerator s j f)) ⟩
+    reduceLevel (suc b) (suc a) (reduceLevel 0 0 (timesGenerator s j f))
+    ≡⟨ ap (λ (i : ℕ). reduceLevel (suc b) (suc a) (reduceLevel 0 0 (timesGenerator s i f))) c ⟩
+    reduceLevel (suc b) (suc a) (reduceLevel 0 0 (timesGenerator s (j + 0) f)) ∎
 times-past s k (suc b) (suc j) (suc a) (level zero (suc d) f) e =
     ap (λ (i : ℕ). reduceLevel (suc b) (suc a) (timesGenerator s i (level 0 (suc d) f))) (sym e)
 times-past s k (suc b) (suc j) (suc a) (level (suc c) d f) e =

@@ -1,5 +1,5 @@
 -- A reducing step keeps the form's letters joined, and so its map (01, 'The reduced form'). Assumes nothing.
-use mathlib.Core.Path.{_≡_, refl, sym, _∙_, ap, ap₂}
+use mathlib.Core.Path.{_≡_, refl, sym, _∙_, ap, ap₂, _≡⟨_⟩_, _∎}
 use mathlib.Core.List.{append-nil}
 use Prim.Native.Nat.{ℕ, zero, suc}
 use native.Mathlib.Omega.{arith}
@@ -23,18 +23,31 @@ above-step i f g t =
             here = λ s. omega (arith, exponent-above s f i, t .applies .here s);
             next = λ s. exponent-above s f (suc i) ∙ t .applies .next s;
           };
-      kept = λ s k h. exponent-above s g k ∙ t .kept s (suc k) (omega arith) ∙ sym (exponent-above s f k);
-      removed = λ s. ap suc (exponent-above s g i) ∙ t .removed s ∙ sym (exponent-above s f i);
-      lowered = λ s k h. exponent-above s g k ∙ t .lowered s (suc k) (omega arith) ∙ sym (exponent-above s f (suc k));
+      kept = λ s k h.
+          exponent s (above g) k ≡⟨ exponent-above s g k ⟩
+          exponent s g (suc k) ≡⟨ t .kept s (suc k) (omega arith) ⟩
+          exponent s f (suc k) ≡⟨ sym (exponent-above s f k) ⟩
+          exponent s (above f) k ∎;
+      removed = λ s.
+          suc (exponent s (above g) i) ≡⟨ ap suc (exponent-above s g i) ⟩
+          suc (exponent s g (suc i)) ≡⟨ t .removed s ⟩
+          exponent s f (suc i) ≡⟨ sym (exponent-above s f i) ⟩
+          exponent s (above f) i ∎;
+      lowered = λ s k h.
+          exponent s (above g) k ≡⟨ exponent-above s g k ⟩
+          exponent s g (suc k) ≡⟨ t .lowered s (suc k) (omega arith) ⟩
+          exponent s f (suc (suc k)) ≡⟨ sym (exponent-above s f (suc k)) ⟩
+          exponent s (above f) (suc k) ∎;
     }
 
 -- What stands above level 1 before a step at 0 stands above level 0 behind it.
 pub lowered-above : (f g : Form) → ReducingStep 0 f g → SameExponents (above (above f)) (above g)
 lowered-above f g t s i =
-    exponent-above s (above f) i
-    ∙ exponent-above s f (suc i)
-    ∙ sym (t .lowered s (suc i) (omega arith))
-    ∙ sym (exponent-above s g i)
+    exponent s (above (above f)) i ≡⟨ exponent-above s (above f) i ⟩
+    exponent s (above f) (suc i) ≡⟨ exponent-above s f (suc i) ⟩
+    exponent s f (suc (suc i)) ≡⟨ sym (t .lowered s (suc i) (omega arith)) ⟩
+    exponent s g (suc i) ≡⟨ sym (exponent-above s g i) ⟩
+    exponent s (above g) i ∎
 
 -- The spelling by levels, by exponents.
 spell-first : (f : Form) → spellLevels f ≡ spellLevel (exponent bSide f 0) (exponent aSide f 0) (spellLevels (above f))

@@ -1,7 +1,7 @@
 -- The shift of words, σ: a to b and b to Aba, so that σ takes x_k to x_(k+1). It respects the congruence, and a shifted
 -- word is shifted once more by conjugation with a: σ(σ g) = A σ(g) a. The relators of 01 say x1⁻¹x2x1 = x3 and
 -- x1⁻¹x3x1 = x4 (000, presentation 1); what σ makes of them also needs x1⁻¹x4x1 = x5, which follows. Assumes nothing.
-use mathlib.Core.Path.{_≡_, refl, sym, _∙_, ap}
+use mathlib.Core.Path.{_≡_, refl, sym, ap, _≡⟨_⟩_, _∎}
 use mathlib.Core.List.{[], _∷_, _++_}
 use Rattle.group.specs.Letters.{Letter, 'a, 'A, 'b, 'B, Word, inverse}
 use Rattle.group.specs.Chains.{relator1, relator2, Eight, pair-aA, pair-Aa, pair-bB, pair-Bb, first, second}
@@ -34,11 +34,12 @@ pub σ-append : (u v : Word) → σ (u ++ v) ≡ σ u ++ σ v
 pub σ-inverse : (w : Word) → σ (inverse w) ≡ inverse (σ w)
 σ-inverse [] = refl
 σ-inverse (x ∷ w) =
-    σ-append (inverse w) (inverse (x ∷ []))
-    ∙ ap (λ (u : Word). u ++ σ (inverse (x ∷ []))) (σ-inverse w)
-    ∙ ap (λ (u : Word). inverse (σ w) ++ u) (σ-inverse-letter x)
-    ∙ sym (inverse-append (σ (x ∷ [])) (σ w))
-    ∙ ap inverse (sym (σ-append (x ∷ []) w))
+    σ (inverse w ++ inverse (x ∷ [])) ≡⟨ σ-append (inverse w) (inverse (x ∷ [])) ⟩
+    σ (inverse w) ++ σ (inverse (x ∷ [])) ≡⟨ ap (λ (u : Word). u ++ σ (inverse (x ∷ []))) (σ-inverse w) ⟩
+    inverse (σ w) ++ σ (inverse (x ∷ [])) ≡⟨ ap (λ (u : Word). inverse (σ w) ++ u) (σ-inverse-letter x) ⟩
+    inverse (σ w) ++ inverse (σ (x ∷ [])) ≡⟨ sym (inverse-append (σ (x ∷ [])) (σ w)) ⟩
+    inverse (σ (x ∷ []) ++ σ w) ≡⟨ ap inverse (sym (σ-append (x ∷ []) w)) ⟩
+    inverse (σ (x ∷ w)) ∎
 
 -- x_j x_1 = x_1 x_(j+1) for j = 2, 3, 4, and the same of inverses for j = 2, 3.
 x2-past-x1 : word "Abab" ≈ word "bAAbaa"

@@ -1,7 +1,7 @@
 -- The theorems on forms and words: uniqueness; equal forms just when a chain joins the words, and just when their maps
 -- agree; and that any reduced form which keeps the word's map, however it was found, is the form of the word.
 -- Assumes nothing.
-use mathlib.Core.Path.{_≡_, sym, _∙_, ap}
+use mathlib.Core.Path.{_≡_, sym, _∙_, ap, _≡⟨_⟩_, _∎}
 use mathlib.Core.List.{[], _∷_}
 use mathlib.Core.Logic.{_↔_}
 use Rattle.group.specs.Letters.{Letter, Word, inverseLetter}
@@ -15,7 +15,8 @@ use Rattle.group.proofs.Inverses.{eight-pairs, cancel-letter}
 use Rattle.group.proofs.Exponents.{trimmed-equal}
 use Rattle.group.proofs.Products.{form-sound}
 use Rattle.group.proofs.Digits.{act→map, map→act}
-use Rattle.group.proofs.Actions.{act-cong, act-letters}
+use Rattle.group.proofs.Inner.{act}
+use Rattle.group.proofs.Actions.{levelsMap, act-cong, act-letters}
 use Rattle.group.proofs.Reduced.{form-reduced, form-trimmed}
 use Rattle.group.proofs.Unique.{unique-levels}
 
@@ -34,7 +35,12 @@ form-map w = act→map (letters (formOf w)) w (act-cong (form-sound w))
 -- Uniqueness: reduced forms with one map have the same b_i and a_i at every i.
 pub unique-exponents : (f g : Form) → Reduced f → Reduced g → SameMap (letters f) (letters g) → SameExponents f g
 unique-exponents f g r q h =
-    unique-levels f g r q (λ p. sym (act-letters f p) ∙ map→act (letters f) (letters g) h p ∙ act-letters g p)
+    unique-levels f g r q
+    (λ p.
+    levelsMap f p ≡⟨ sym (act-letters f p) ⟩
+    act (letters f) p ≡⟨ map→act (letters f) (letters g) h p ⟩
+    act (letters g) p ≡⟨ act-letters g p ⟩
+    levelsMap g p ∎)
 
 -- If they are trimmed too, they are equal; and so are those whose letters a chain joins.
 pub unique-form : (f g : Form) → Reduced f → Reduced g → Trimmed f → Trimmed g
@@ -50,10 +56,11 @@ pub the-exponents : (w : Word) (f : Form) → Reduced f → SameMap (letters f) 
 the-exponents w f r h =
     unique-levels f (formOf w) r (form-reduced w)
     (λ p.
-    sym (act-letters f p)
-    ∙ map→act (letters f) w h p
-    ∙ sym (act-cong (form-sound w) p)
-    ∙ act-letters (formOf w) p)
+    levelsMap f p ≡⟨ sym (act-letters f p) ⟩
+    act (letters f) p ≡⟨ map→act (letters f) w h p ⟩
+    act w p ≡⟨ sym (act-cong (form-sound w) p) ⟩
+    act (letters (formOf w)) p ≡⟨ act-letters (formOf w) p ⟩
+    levelsMap (formOf w) p ∎)
 
 pub the-form : (w : Word) (f : Form) → Reduced f → Trimmed f → SameMap (letters f) w → f ≡ formOf w
 the-form w f r t h = trimmed-equal f (formOf w) t (form-trimmed w) (the-exponents w f r h)

@@ -2,7 +2,7 @@
 -- level exceeds the other by one number d on both sides. Cancel the smaller powers: if d is above 0, the map of the
 -- levels above the larger one fixes every point that begins with 0. A reduced form with such a map has (0, 0) for its
 -- first level, and that breaks the clause one level below. Assumes nothing.
-use mathlib.Core.Path.{_≡_, refl, sym, _∙_, ap, subst}
+use mathlib.Core.Path.{_≡_, refl, sym, _∙_, ap, subst, _≡⟨_⟩_, _∎}
 use mathlib.Core.Logic.{inl, inr}
 use Prim.Native.Nat.{ℕ, zero, suc, _+_, _-_, _<_, _≤_}
 use native.Mathlib.Omega.{arith}
@@ -32,7 +32,13 @@ inner-fixes e g h t =
     ap (iter map-A (suc e)) (sym (r .1)) ∙ iter-undo (suc e) (upper (lower t)) in
     upper-injective (g (lower t)) (lower t)
     (iter-injective (suc e) (lift g (upper (lower t))) (upper (lower t))
-    (ap (λ q. iter map-a (suc e) (lift g q)) (sym back) ∙ h (r .0) ∙ sym (r .1)))
+    (iter map-a (suc e) (lift g (upper (lower t)))
+    ≡⟨ ap (λ q. iter map-a (suc e) (lift g q)) (sym back) ⟩
+    iter map-a (suc e) (lift g (iter map-A (suc e) (lower (r .0))))
+    ≡⟨ h (r .0) ⟩
+    lower (r .0)
+    ≡⟨ sym (r .1) ⟩
+    iter map-a (suc e) (upper (lower t)) ∎))
 
 -- The clause at a level with both exponents above 0 does not bear (0, 0) above it.
 clause-broken : (g : Form) → Occurs g 0 → ((s : Side) → exponent s g 0 ≡ 0) → ⊥
@@ -85,11 +91,17 @@ cancelled : (b a d c e : ℕ) (f g : Form) → c ≡ b + d → e ≡ a + d
     → (q : Inner) → lift (levelsMap f) q ≡ iter map-a d (lift (levelsMap g) (iter map-A d q))
 cancelled b a d c e f g x y h q =
     iter-injective b (lift (levelsMap f) q) (iter map-a d (lift (levelsMap g) (iter map-A d q)))
-    (ap (λ p. iter map-a b (lift (levelsMap f) p)) (sym (iter-undo a q))
-    ∙ h (iter map-a a q)
-    ∙ ap (λ p. iter map-a c (lift (levelsMap g) p))
-    (iter-add map-A d a e (iter map-a a q) (omega arith) ∙ ap (iter map-A d) (iter-undo a q))
-    ∙ iter-add map-a b d c (lift (levelsMap g) (iter map-A d q)) x)
+    (iter map-a b (lift (levelsMap f) q)
+    ≡⟨ ap (λ p. iter map-a b (lift (levelsMap f) p)) (sym (iter-undo a q)) ⟩
+    iter map-a b (lift (levelsMap f) (iter map-A a (iter map-a a q)))
+    ≡⟨ h (iter map-a a q) ⟩
+    iter map-a c (lift (levelsMap g) (iter map-A e (iter map-a a q)))
+    ≡⟨ ap (λ p. iter map-a c (lift (levelsMap g) p)) (iter-add map-A d a e (iter map-a a q) (omega arith)) ⟩
+    iter map-a c (lift (levelsMap g) (iter map-A d (iter map-A a (iter map-a a q))))
+    ≡⟨ ap (λ p. iter map-a c (lift (levelsMap g) (iter map-A d p))) (iter-undo a q) ⟩
+    iter map-a c (lift (levelsMap g) (iter map-A d q))
+    ≡⟨ iter-add map-a b d c (lift (levelsMap g) (iter map-A d q)) x ⟩
+    iter map-a b (iter map-a d (lift (levelsMap g) (iter map-A d q))) ∎)
 
 -- Two forms whose first levels differ by d on both sides: d is 0, and the levels above agree.
 first-levels : (b a d c e : ℕ) (f g : Form) → c ≡ b + d → e ≡ a + d → Reduced (level c e g)

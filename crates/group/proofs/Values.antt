@@ -3,7 +3,7 @@
 --     Low        0, or an inner point             value p       the point below 1 that digits name
 --     onInner g  g, with 0 fixed                  withDigit d   a digit put in front
 -- Assumes nothing.
-use mathlib.Core.Path.{_≡_, refl, sym, _∙_, ap}
+use mathlib.Core.Path.{_≡_, refl, sym, _∙_, ap, _≡⟨_⟩_, _∎}
 use mathlib.Core.List.{List, [], _∷_}
 use Rattle.group.specs.Letters.{Letter, 'a, 'A, 'b, 'B}
 use Rattle.group.specs.Points.{Digit, 𝟎, 𝟏, firstDigit, laterDigits}
@@ -57,10 +57,11 @@ a-on-11 (inside p) = refl
 undone : (c d : Low) → d ≡ onInner map-a c → c ≡ onInner map-A d
 undone c d e =
     sym
-    (ap (onInner map-A) e
-    ∙ on-inner-twice map-A map-a c
-    ∙ on-inner-cong (λ p. map-A (map-a p)) (λ p. p) A-undoes-a c
-    ∙ on-inner-id c)
+    (onInner map-A d ≡⟨ ap (onInner map-A) e ⟩
+    onInner map-A (onInner map-a c) ≡⟨ on-inner-twice map-A map-a c ⟩
+    onInner (λ p. map-A (map-a p)) c ≡⟨ on-inner-cong (λ p. map-A (map-a p)) (λ p. p) A-undoes-a c ⟩
+    onInner (λ p. p) c ≡⟨ on-inner-id c ⟩
+    c ∎)
 
 rule-a-value : (d e : Digit) (r : List Digit) → value (rule-a d e r) ≡ onInner map-a (value (d ∷ e ∷ r))
 rule-a-value 𝟎 e r = a-on-0 (withDigit e (value r))
@@ -95,12 +96,18 @@ lift-behind-1 g (inside p) = refl
 rule-b-value : (d e f : Digit) (r : List Digit) → value (rule-b d e f r) ≡ onInner (lift map-a) (value (d ∷ e ∷ f ∷ r))
 rule-b-value 𝟎 e f r = lift-behind-0 map-a (value (e ∷ f ∷ r))
 rule-b-value 𝟏 e f r =
-    ap value (rule-b-behind-1 e f r) ∙ ap (withDigit 𝟏) (rule-a-value e f r) ∙ lift-behind-1 map-a (value (e ∷ f ∷ r))
+    value (rule-b 𝟏 e f r) ≡⟨ ap value (rule-b-behind-1 e f r) ⟩
+    withDigit 𝟏 (value (rule-a e f r)) ≡⟨ ap (withDigit 𝟏) (rule-a-value e f r) ⟩
+    withDigit 𝟏 (onInner map-a (value (e ∷ f ∷ r))) ≡⟨ lift-behind-1 map-a (value (e ∷ f ∷ r)) ⟩
+    onInner (lift map-a) (value (𝟏 ∷ e ∷ f ∷ r)) ∎
 
 rule-B-value : (d e f : Digit) (r : List Digit) → value (rule-B d e f r) ≡ onInner (lift map-A) (value (d ∷ e ∷ f ∷ r))
 rule-B-value 𝟎 e f r = lift-behind-0 map-A (value (e ∷ f ∷ r))
 rule-B-value 𝟏 e f r =
-    ap value (rule-B-behind-1 e f r) ∙ ap (withDigit 𝟏) (rule-A-value e f r) ∙ lift-behind-1 map-A (value (e ∷ f ∷ r))
+    value (rule-B 𝟏 e f r) ≡⟨ ap value (rule-B-behind-1 e f r) ⟩
+    withDigit 𝟏 (value (rule-A e f r)) ≡⟨ ap (withDigit 𝟏) (rule-A-value e f r) ⟩
+    withDigit 𝟏 (onInner map-A (value (e ∷ f ∷ r))) ≡⟨ lift-behind-1 map-A (value (e ∷ f ∷ r)) ⟩
+    onInner (lift map-A) (value (𝟏 ∷ e ∷ f ∷ r)) ∎
 
 -- Reading a digit past the end, as 0, changes no value.
 pub value-1 : (p : List Digit) → value (firstDigit p ∷ laterDigits p) ≡ value p
@@ -112,7 +119,14 @@ value-2 p = ap (withDigit (firstDigit p)) (value-1 (laterDigits p)) ∙ value-1 
 
 value-3 : (p q : List Digit) → q ≡ laterDigits p
     → value (firstDigit p ∷ firstDigit q ∷ firstDigit (laterDigits q) ∷ laterDigits (laterDigits q)) ≡ value p
-value-3 p q e = ap (withDigit (firstDigit p)) (value-2 q ∙ ap value e) ∙ value-1 p
+value-3 p q e =
+    withDigit (firstDigit p) (value (firstDigit q ∷ firstDigit (laterDigits q) ∷ laterDigits (laterDigits q)))
+    ≡⟨ ap (withDigit (firstDigit p)) (value-2 q) ⟩
+    withDigit (firstDigit p) (value q)
+    ≡⟨ ap (λ (r : List Digit). value (firstDigit p ∷ r)) e ⟩
+    value (firstDigit p ∷ laterDigits p)
+    ≡⟨ value-1 p ⟩
+    value p ∎
 
 pub move-digits-value : (x : Letter) (p : List Digit) → value (moveDigits x p) ≡ onInner (letterMap x) (value p)
 move-digits-value 'a p =

@@ -4,7 +4,7 @@
 --     tree-holds, tree-least        no tree with the exponents has fewer carets than they need
 --     Enough n k es                 n carets are enough for the exponents es from leaf k on
 -- Assumes nothing.
-use mathlib.Core.Path.{_≡_, refl, sym, _∙_, ap, subst}
+use mathlib.Core.Path.{_≡_, refl, sym, _∙_, ap, subst, _≡⟨_⟩_, _∎}
 use mathlib.Core.List.{List, [], _∷_, _++_, append-assoc}
 use Prim.Native.Nat.{ℕ, zero, suc, _+_, _-_, _<_, _≤_}
 use native.Mathlib.Omega.{arith}
@@ -130,9 +130,13 @@ row-exponents-grow : (e : ℕ) (t : Tree) (ts : List Tree) (k : ℕ) → k ≡ e
 row-exponents-grow zero t ts k h i =
     same-cons (leftEdge t) k (later t ++ rowExponents ts) (later t ++ rowExponents ts) (omega arith) (λ j. refl) i
 row-exponents-grow (suc e) t ts k h i =
-    row-exponents-grow e (caret t u) us k (omega arith) i
-    ∙ ap (λ (es : List ℕ). getD (k ∷ es) i 0) (append-assoc (later t) (leftEdge u ∷ later u) (rowExponents us))
-    ∙ sym (same-append (k ∷ later t) (rowExponents ts) next (row-exponents-later ts) i)
+    getD (rowExponents (grow e (caret t u) us)) i 0
+    ≡⟨ row-exponents-grow e (caret t u) us k (omega arith) i ⟩
+    getD (k ∷ ((later t ++ (leftEdge u ∷ later u)) ++ rowExponents us)) i 0
+    ≡⟨ ap (λ (es : List ℕ). getD (k ∷ es) i 0) (append-assoc (later t) (leftEdge u ∷ later u) (rowExponents us)) ⟩
+    getD (k ∷ (later t ++ next)) i 0
+    ≡⟨ sym (same-append (k ∷ later t) (rowExponents ts) next (row-exponents-later ts) i) ⟩
+    getD (k ∷ (later t ++ rowExponents ts)) i 0 ∎
   where
     u : Tree
     u = firstTree ts

@@ -1,5 +1,5 @@
 -- The carets that a table of exponents needs, counted from its end: the laws of that loop. Assumes nothing.
-use mathlib.Core.Path.{_≡_, refl, sym, _∙_, ap, subst}
+use mathlib.Core.Path.{_≡_, refl, sym, _∙_, ap, subst, _≡⟨_⟩_, _∎}
 use mathlib.Core.List.{List, [], _∷_}
 use Prim.Native.Nat.{ℕ, zero, suc, _+_, _*_, _-_, _<_, _≤_, max}
 use native.Mathlib.Omega.{arith}
@@ -65,14 +65,21 @@ module _ {e : List ℕ} {j sum n : ℕ} (h : Counted e j sum n) (i x sum′ n′
 
   pub count-more : Counted e i sum′ n′
   count-more =
-      let sums′ : sum′ ≡ x + total (drop j e) = omega (arith, h .sums) in
+      let rest : List ℕ = drop j e in
+      let s : ℕ = x + total rest in
+      let sums′ : sum′ ≡ x + total rest = omega (arith, h .sums) in
       record {
         within = omega (arith, h .within);
         sums = sums′ ∙ sym (ap total cut);
         bound = omega (arith, h .bound, h .within);
-        carets = next ∙ ap (λ (k : ℕ). raised i x k n) sums′ ∙ ap (raised i x (x + total (drop j e))) (h .carets)
-            ∙ ap (λ (k : ℕ). raised i x (x + total (drop j e)) (needed k (drop j e))) at
-            ∙ sym (needed-cons i x (drop j e)) ∙ sym (ap (needed i) cut);
+        carets =
+            n′ ≡⟨ next ⟩
+            raised i x sum′ n ≡⟨ ap (λ (k : ℕ). raised i x k n) sums′ ⟩
+            raised i x s n ≡⟨ ap (raised i x s) (h .carets) ⟩
+            raised i x s (needed j rest) ≡⟨ ap (λ (k : ℕ). raised i x s (needed k rest)) at ⟩
+            raised i x s (needed (suc i) rest) ≡⟨ sym (needed-cons i x rest) ⟩
+            needed i (x ∷ rest) ≡⟨ sym (ap (needed i) cut) ⟩
+            needed i (drop i e) ∎;
       }
 
 -- All are counted.

@@ -3,7 +3,7 @@
 --     has-exponents       HasExponents says that the tree's exponents are those of a list, with zeros behind its last
 --     side-entries        the same for a side of a form, with side-exponents the way back
 -- Assumes nothing.
-use mathlib.Core.Path.{_≡_, refl, sym, _∙_, ap, ap₂, subst}
+use mathlib.Core.Path.{_≡_, refl, sym, _∙_, ap, ap₂, subst, _≡⟨_⟩_, _∎}
 use mathlib.Core.List.{List, [], _∷_, _++_, append-assoc, append-nil, map, map-append}
 use mathlib.Core.Logic.{_↔_, inl, inr}
 use Prim.Native.Nat.{ℕ, zero, suc, _+_, _<_, _≤_}
@@ -103,18 +103,27 @@ interior-exponents leaf d e h =
     let q : d ≡ e = omega arith in
     ap (λ (k : ℕ). k ∷ []) q
 interior-exponents (caret l r) d e h =
-    map-append (exponentFrom d) (below 𝟎 (leaves l)) (below 𝟏 (leaves r))
-    ∙ ap₂ (λ (x y : List ℕ). x ++ y)
-    (map-below (exponentFrom d) 𝟎 (leaves l) ∙ interior-exponents l (suc d) e (omega arith))
-    (map-below (exponentFrom d) 𝟏 (leaves r) ∙ interior-exponents r 0 (leftEdge r) (omega arith))
+    let of-l : map (exponentFrom (suc d)) (leaves l) ≡ e ∷ later l = interior-exponents l (suc d) e (omega arith) in
+    let of-r : map (exponentFrom 0) (leaves r) ≡ leftEdge r ∷ later r =
+    interior-exponents r 0 (leftEdge r) (omega arith) in
+    map (exponentFrom d) (below 𝟎 (leaves l) ++ below 𝟏 (leaves r))
+    ≡⟨ map-append (exponentFrom d) (below 𝟎 (leaves l)) (below 𝟏 (leaves r)) ⟩
+    map (exponentFrom d) (below 𝟎 (leaves l)) ++ map (exponentFrom d) (below 𝟏 (leaves r))
+    ≡⟨ ap₂ _++_ (map-below (exponentFrom d) 𝟎 (leaves l)) (map-below (exponentFrom d) 𝟏 (leaves r)) ⟩
+    map (exponentFrom (suc d)) (leaves l) ++ map (exponentFrom 0) (leaves r)
+    ≡⟨ ap₂ _++_ of-l of-r ⟩
+    (e ∷ later l) ++ (leftEdge r ∷ later r) ∎
 
 leaf-exponents : (t : Tree) → map addressExponent (leaves t) ≡ exponentsOf t
 leaf-exponents leaf = refl
 leaf-exponents (caret l r) =
-    map-append addressExponent (below 𝟎 (leaves l)) (below 𝟏 (leaves r))
-    ∙ ap₂ (λ (x y : List ℕ). x ++ y)
-    (map-below addressExponent 𝟎 (leaves l) ∙ interior-exponents l 0 (leftEdge l) (omega arith))
-    (map-below addressExponent 𝟏 (leaves r) ∙ leaf-exponents r)
+    map addressExponent (below 𝟎 (leaves l) ++ below 𝟏 (leaves r))
+    ≡⟨ map-append addressExponent (below 𝟎 (leaves l)) (below 𝟏 (leaves r)) ⟩
+    map addressExponent (below 𝟎 (leaves l)) ++ map addressExponent (below 𝟏 (leaves r))
+    ≡⟨ ap₂ _++_ (map-below addressExponent 𝟎 (leaves l)) (map-below addressExponent 𝟏 (leaves r)) ⟩
+    map (exponentFrom 0) (leaves l) ++ map addressExponent (leaves r)
+    ≡⟨ ap₂ _++_ (interior-exponents l 0 (leftEdge l) (omega arith)) (leaf-exponents r) ⟩
+    (leftEdge l ∷ later l) ++ exponentsOf r ∎
 
 -- Entry k of the exponents of a tree is the exponent of leaf k.
 pub exponent-at-leaf : (t : Tree) (k : ℕ) (u : Address) → Leaf t k u → getD (exponentsOf t) k 0 ≡ addressExponent u

@@ -3,7 +3,7 @@
 --     exposed-inside   leaf i has an exponent above 0 and leaf i + 1 the exponent 0: they are on one caret
 --     exposed-last     one caret less would do for the exponents: the last two leaves are on one caret
 -- Assumes nothing.
-use mathlib.Core.Path.{_≡_, refl, sym, _∙_, ap, subst}
+use mathlib.Core.Path.{_≡_, refl, sym, _∙_, ap, subst, _≡⟨_⟩_, _∎}
 use mathlib.Core.List.{List, [], _∷_, _++_, append-assoc, append-nil}
 use mathlib.Core.Logic.{inl, inr}
 use Prim.Native.Nat.{ℕ, zero, suc, _<_, _≤_}
@@ -42,8 +42,10 @@ next-leaf (caret l r) i (𝟏 ∷ v) p =
 -- The last of some left edges.
 left-edges-last : (v : Address) (k : ℕ) → v ++ leftEdges (suc k) ≡ (v ++ leftEdges k) ++ (𝟎 ∷ [])
 left-edges-last v k =
-    ap (λ (w : Address). v ++ w) (sym (left-edges-past k [] ∙ append-nil (leftEdges (suc k))))
-    ∙ sym (append-assoc v (leftEdges k) (𝟎 ∷ []))
+    v ++ leftEdges (suc k) ≡⟨ ap (λ (w : Address). v ++ w) (sym (append-nil (leftEdges (suc k)))) ⟩
+    v ++ (leftEdges (suc k) ++ []) ≡⟨ ap (λ (w : Address). v ++ w) (sym (left-edges-past k [])) ⟩
+    v ++ (leftEdges k ++ (𝟎 ∷ [])) ≡⟨ sym (append-assoc v (leftEdges k) (𝟎 ∷ [])) ⟩
+    (v ++ leftEdges k) ++ (𝟎 ∷ []) ∎
 
 -- Below a node off the right side, all is off the right side.
 off-side : (v w : Address) → (RightSide v → ⊥) → RightSide (v ++ w) → ⊥

@@ -2,7 +2,7 @@
 -- tree pair and the length').
 --     allButLast t   the exponents of the leaves but the last
 -- Assumes nothing.
-use mathlib.Core.Path.{_≡_, refl, sym, _∙_, ap, ap₂}
+use mathlib.Core.Path.{_≡_, refl, sym, _∙_, ap, ap₂, _≡⟨_⟩_, _∎}
 use mathlib.Core.List.{List, [], _∷_, _++_, append-assoc}
 use Prim.Native.Nat.{ℕ, suc, _+_, _≤_}
 use native.Mathlib.Omega.{arith}
@@ -45,13 +45,20 @@ nodes-subtree leaf d e o p es he hp =
     let r : o + e ≡ p = omega arith in
     ap₂ (λ (x y : ℕ). replicate x 1 ++ (0 ∷ nodesFrom es y)) q r
 nodes-subtree (caret l r) d e o p es he hp =
-    ap (λ (x : List ℕ). nodesFrom (e ∷ x) (suc o)) (append-assoc (later l) (leftEdge r ∷ later r) es)
-    ∙ nodes-subtree l (suc d) e o (suc p) (leftEdge r ∷ (later r ++ es)) (omega arith) (omega arith)
-    ∙ ap
-    (λ (x : List ℕ). replicate (suc d) 1 ++ (shape l ++ x))
-    (nodes-subtree r 0 (leftEdge r) p p es (omega arith) (omega arith))
-    ∙ sym (replicate-past d 1 (shape l ++ (shape r ++ nodesFrom es p)))
-    ∙ ap (λ (x : List ℕ). replicate d 1 ++ (1 ∷ x)) (sym (append-assoc (shape l) (shape r) (nodesFrom es p)))
+    let fs : List ℕ = leftEdge r ∷ (later r ++ es) in
+    let of-r : nodesFrom fs (suc p) ≡ shape r ++ nodesFrom es p =
+    nodes-subtree r 0 (leftEdge r) p p es (omega arith) (omega arith) in
+    nodesFrom (e ∷ ((later l ++ (leftEdge r ∷ later r)) ++ es)) (suc o)
+    ≡⟨ ap (λ (x : List ℕ). nodesFrom (e ∷ x) (suc o)) (append-assoc (later l) (leftEdge r ∷ later r) es) ⟩
+    nodesFrom (e ∷ (later l ++ fs)) (suc o)
+    ≡⟨ nodes-subtree l (suc d) e o (suc p) fs (omega arith) (omega arith) ⟩
+    replicate (suc d) 1 ++ (shape l ++ nodesFrom fs (suc p))
+    ≡⟨ ap (λ (x : List ℕ). replicate (suc d) 1 ++ (shape l ++ x)) of-r ⟩
+    replicate (suc d) 1 ++ (shape l ++ (shape r ++ nodesFrom es p))
+    ≡⟨ sym (replicate-past d 1 (shape l ++ (shape r ++ nodesFrom es p))) ⟩
+    replicate d 1 ++ (1 ∷ (shape l ++ (shape r ++ nodesFrom es p)))
+    ≡⟨ ap (λ (x : List ℕ). replicate d 1 ++ (1 ∷ x)) (sym (append-assoc (shape l) (shape r) (nodesFrom es p))) ⟩
+    replicate d 1 ++ (shape (caret l r) ++ nodesFrom es p) ∎
 
 -- A caret of the right side stands in front of the subtree that hangs on it.
 nodes-side : (e : ℕ) (es : List ℕ) → nodesFrom (e ∷ es) 0 ≡ 1 ∷ nodesFrom (e ∷ es) 1
@@ -65,11 +72,14 @@ pub nodes-tree : (t : Tree) → nodesFrom (allButLast t) 0 ≡ shape t
 unfolding nodesFrom
 nodes-tree leaf = refl
 nodes-tree (caret l r) =
-    nodes-side (leftEdge l) (later l ++ allButLast r)
-    ∙ ap
-    (λ (s : List ℕ). 1 ∷ s)
-    (nodes-subtree l 0 (leftEdge l) 0 0 (allButLast r) (omega arith) (omega arith)
-    ∙ ap (λ (s : List ℕ). shape l ++ s) (nodes-tree r))
+    let es : List ℕ = allButLast r in
+    nodesFrom (leftEdge l ∷ (later l ++ es)) 0
+    ≡⟨ nodes-side (leftEdge l) (later l ++ es) ⟩
+    1 ∷ nodesFrom (leftEdge l ∷ (later l ++ es)) 1
+    ≡⟨ ap (λ (s : List ℕ). 1 ∷ s) (nodes-subtree l 0 (leftEdge l) 0 0 es (omega arith) (omega arith)) ⟩
+    1 ∷ (shape l ++ nodesFrom es 0)
+    ≡⟨ ap (λ (s : List ℕ). 1 ∷ (shape l ++ s)) (nodes-tree r) ⟩
+    1 ∷ (shape l ++ shape r) ∎
 
 -- The shape of the tree with n carets, from the exponents of its first n leaves.
 pub nodes-shape : (n : ℕ) (es : List ℕ) → length es ≡ n → needed 0 es ≤ n → nodesFrom es 0 ≡ shape (treeOf n es)

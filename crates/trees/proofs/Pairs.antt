@@ -1,7 +1,8 @@
 -- The pair of trees of a form: it has the form's exponents, no such pair has fewer carets, it is the only one of its
 -- size, and it has at most 2l + 1 carets for a form within the limit l (01, 'The tree pair and the length'; 000,
 -- section 2.5.1). Assumes nothing.
-use mathlib.Core.Path.{_≡_, refl, sym, _∙_, ap}
+use mathlib.Core.Path.{_≡_, refl, sym, _∙_, ap, _≡⟨_⟩_, _∎}
+use mathlib.Core.List.{List}
 use Prim.Native.Nat.{ℕ, suc, _+_, _*_, _≤_}
 use native.Mathlib.Omega.{arith}
 use lib.ListN.{length}
@@ -72,13 +73,25 @@ carets-smallest f t s p e = record { pair = p; smallest = λ u v q. omega (arith
 
 -- It is the only one.
 pub only-pair : (f : Form) (t s : Tree) → SmallestPair f t s → (t ≡ minusTree f) × (s ≡ plusTree f)
-only-pair f t s p =
-    let e : carets t ≡ caretsOf f = smallest-carets f t s p in (
-      tree-unique t (exponents aSide f) (side-entries aSide f t (p .pair .a-exponents))
-          ∙ ap (λ (n : ℕ). treeOf n (exponents aSide f)) e,
-      tree-unique s (exponents bSide f) (side-entries bSide f s (p .pair .b-exponents))
-          ∙ ap (λ (n : ℕ). treeOf n (exponents bSide f)) (sym (p .pair .same-size) ∙ e),
-    )
+only-pair f t s p = (minus-is, plus-is)
+  where
+    size : carets t ≡ caretsOf f
+    size = smallest-carets f t s p
+
+    minus-is : t ≡ minusTree f
+    minus-is =
+        let es : List ℕ = exponents aSide f in
+        t ≡⟨ tree-unique t es (side-entries aSide f t (p .pair .a-exponents)) ⟩
+        treeOf (carets t) es ≡⟨ ap (λ (n : ℕ). treeOf n es) size ⟩
+        minusTree f ∎
+
+    plus-is : s ≡ plusTree f
+    plus-is =
+        let es : List ℕ = exponents bSide f in
+        s ≡⟨ tree-unique s es (side-entries bSide f s (p .pair .b-exponents)) ⟩
+        treeOf (carets s) es ≡⟨ ap (λ (n : ℕ). treeOf n es) (sym (p .pair .same-size)) ⟩
+        treeOf (carets t) es ≡⟨ ap (λ (n : ℕ). treeOf n es) size ⟩
+        plusTree f ∎
 
 -- The pair of the empty form is two leaves.
 pub empty-pair : (minusTree empty ≡ leaf) × (plusTree empty ≡ leaf)

@@ -3,7 +3,7 @@
 --     treeAt i ts   tree i of a row          hung t        the trees that hang on the right side of a tree
 --     SameTrees     the same trees           rightCarets   the carets of the right side
 -- Assumes nothing.
-use mathlib.Core.Path.{_≡_, refl, sym, _∙_, ap, ap₂}
+use mathlib.Core.Path.{_≡_, refl, sym, _∙_, ap, ap₂, _≡⟨_⟩_, _∎}
 use mathlib.Core.List.{List, [], _∷_, _++_, append-assoc}
 use Prim.Native.Nat.{ℕ, zero, suc, _+_, _-_}
 use native.Mathlib.Omega.{arith}
@@ -68,9 +68,13 @@ row-subtree leaf d e es h =
     let q : e ≡ d = omega arith in
     ap (λ (k : ℕ). grow k leaf (rowOf es)) q
 row-subtree (caret l r) d e es h =
-    ap (λ (s : List ℕ). rowOf (e ∷ s)) (append-assoc (later l) (leftEdge r ∷ later r) es)
-    ∙ row-subtree l (suc d) e (leftEdge r ∷ (later r ++ es)) (omega arith)
-    ∙ ap (grow (suc d) l) (row-subtree r 0 (leftEdge r) es (omega arith))
+    rowOf (e ∷ ((later l ++ (leftEdge r ∷ later r)) ++ es))
+    ≡⟨ ap (λ (s : List ℕ). rowOf (e ∷ s)) (append-assoc (later l) (leftEdge r ∷ later r) es) ⟩
+    rowOf (e ∷ (later l ++ (leftEdge r ∷ (later r ++ es))))
+    ≡⟨ row-subtree l (suc d) e (leftEdge r ∷ (later r ++ es)) (omega arith) ⟩
+    grow (suc d) l (rowOf (leftEdge r ∷ (later r ++ es)))
+    ≡⟨ ap (grow (suc d) l) (row-subtree r 0 (leftEdge r) es (omega arith)) ⟩
+    grow d (caret l r) (rowOf es) ∎
 
 -- The trees that hang on the right side.
 abbrev hung : Tree → List Tree
@@ -106,12 +110,21 @@ total-exponents (caret l r) =
 pub tree-unique : (t : Tree) (es : List ℕ) → SameEntries (exponentsOf t) es → t ≡ treeOf (carets t) es
 tree-unique t es h =
     let n : rightCarets t ≡ carets t - total es = omega (arith, total-exponents t, total-same (exponentsOf t) es h) in
-    sym (over-hung t)
-    ∙ ap (overRow (rightCarets t)) (sym (row-hung t))
-    ∙ over-same (rightCarets t) (rowOf (exponentsOf t)) (rowOf es) (row-same (exponentsOf t) es h)
-    ∙ ap (λ (k : ℕ). overRow k (rowOf es)) n
+    t
+    ≡⟨ sym (over-hung t) ⟩
+    overRow (rightCarets t) (hung t)
+    ≡⟨ ap (overRow (rightCarets t)) (sym (row-hung t)) ⟩
+    overRow (rightCarets t) (rowOf (exponentsOf t))
+    ≡⟨ over-same (rightCarets t) (rowOf (exponentsOf t)) (rowOf es) (row-same (exponentsOf t) es h) ⟩
+    overRow (rightCarets t) (rowOf es)
+    ≡⟨ ap (λ (k : ℕ). overRow k (rowOf es)) n ⟩
+    treeOf (carets t) es ∎
 
 -- Two trees with as many carets and the same exponents are equal.
 pub tree-only : (t u : Tree) (es : List ℕ) → carets t ≡ carets u → SameEntries (exponentsOf t) es
     → SameEntries (exponentsOf u) es → t ≡ u
-tree-only t u es c h k = tree-unique t es h ∙ ap (λ (n : ℕ). treeOf n es) c ∙ sym (tree-unique u es k)
+tree-only t u es c h k =
+    t ≡⟨ tree-unique t es h ⟩
+    treeOf (carets t) es ≡⟨ ap (λ (n : ℕ). treeOf n es) c ⟩
+    treeOf (carets u) es ≡⟨ sym (tree-unique u es k) ⟩
+    u ∎

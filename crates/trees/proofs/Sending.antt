@@ -1,11 +1,11 @@
 -- The map of a form sends leaf k of the one tree to leaf k of the other, for every pair of trees with the form's
 -- exponents, and every point below 1 lies in a leaf (000, sections 2.5 and 2.5.1). Assumes nothing.
-use mathlib.Core.Path.{_≡_, refl, sym, _∙_, ap, subst}
+use mathlib.Core.Path.{_≡_, refl, sym, ap, subst, _≡⟨_⟩_, _∎}
 use mathlib.Core.List.{List, [], _∷_, _++_}
 use Prim.Native.Nat.{ℕ, zero, suc, _+_}
 use Rattle.group.specs.Points.{Digit, 𝟎, 𝟏, Point, below1, firstDigit, laterDigits, digitAt, SamePoint}
 use Rattle.group.specs.Forms.{bSide, aSide, Form, exponents, letters}
-use Rattle.group.proofs.Inner.{act}
+use Rattle.group.proofs.Inner.{Inner, act}
 use Rattle.group.proofs.Actions.{levelsMap, act-letters}
 use Rattle.group.proofs.Values.{Low, withDigit, value, onInner, on-inner-twice, on-inner-cong}
 use Rattle.group.proofs.Digits.{moveAll, map-below1, move-all-value, value→same}
@@ -23,16 +23,25 @@ levels-send f t s pair k u v c lt ls =
     let d : Low = slot (carets t) k c in
     let minus : List ℕ = exponents aSide f in
     let plus : List ℕ = exponents bSide f in
-    ap (onInner (levelsMap f))
-    (sym (slot-to-leaf t k u c lt)
-    ∙ on-inner-cong (powersMap (exponentsOf t)) (powersMap minus)
-    (powers-same (exponentsOf t) minus (side-entries aSide f t (pair .a-exponents))) d)
-    ∙ on-inner-twice (levelsMap f) (powersMap minus) d
-    ∙ on-inner-cong (λ p. levelsMap f (powersMap minus p)) (powersMap plus) (form-sides f) d
-    ∙ on-inner-cong (powersMap plus) (powersMap (exponentsOf s))
-    (powers-same plus (exponentsOf s) (λ j. sym (side-entries bSide f s (pair .b-exponents) j))) d
-    ∙ ap (λ (m : ℕ). onInner (powersMap (exponentsOf s)) (slot m k c)) (pair .same-size)
-    ∙ slot-to-leaf s k v c ls
+    let of-t : (p : Inner) → powersMap (exponentsOf t) p ≡ powersMap minus p =
+    powers-same (exponentsOf t) minus (side-entries aSide f t (pair .a-exponents)) in
+    let of-s : (p : Inner) → powersMap plus p ≡ powersMap (exponentsOf s) p =
+    powers-same plus (exponentsOf s) (λ j. sym (side-entries bSide f s (pair .b-exponents) j)) in
+    onInner (levelsMap f) (withDigits u c)
+    ≡⟨ ap (onInner (levelsMap f)) (sym (slot-to-leaf t k u c lt)) ⟩
+    onInner (levelsMap f) (onInner (powersMap (exponentsOf t)) d)
+    ≡⟨ ap (onInner (levelsMap f)) (on-inner-cong (powersMap (exponentsOf t)) (powersMap minus) of-t d) ⟩
+    onInner (levelsMap f) (onInner (powersMap minus) d)
+    ≡⟨ on-inner-twice (levelsMap f) (powersMap minus) d ⟩
+    onInner (λ p. levelsMap f (powersMap minus p)) d
+    ≡⟨ on-inner-cong (λ p. levelsMap f (powersMap minus p)) (powersMap plus) (form-sides f) d ⟩
+    onInner (powersMap plus) d
+    ≡⟨ on-inner-cong (powersMap plus) (powersMap (exponentsOf s)) of-s d ⟩
+    onInner (powersMap (exponentsOf s)) d
+    ≡⟨ ap (λ (m : ℕ). onInner (powersMap (exponentsOf s)) (slot m k c)) (pair .same-size) ⟩
+    onInner (powersMap (exponentsOf s)) (slot (carets s) k c)
+    ≡⟨ slot-to-leaf s k v c ls ⟩
+    withDigits v c ∎
 
 -- The value of digits with an address in front.
 value-append : (u r : List Digit) → value (u ++ r) ≡ withDigits u (value r)
@@ -44,11 +53,17 @@ pub pair-sends : (f : Form) (t s : Tree) → Pair f t s → SendsLeaves f t s
 pair-sends f t s pair k u v lt ls r =
     subst (λ (x : Point). SamePoint x (below1 (v ++ r))) (sym (map-below1 (letters f) (u ++ r)))
     (value→same (moveAll (letters f) (u ++ r)) (v ++ r)
-    (move-all-value (letters f) (u ++ r)
-    ∙ on-inner-cong (act (letters f)) (levelsMap f) (act-letters f) (value (u ++ r))
-    ∙ ap (onInner (levelsMap f)) (value-append u r)
-    ∙ levels-send f t s pair k u v (value r) (to-leaf t k u lt) (to-leaf s k v ls)
-    ∙ sym (value-append v r)))
+    (value (moveAll (letters f) (u ++ r))
+    ≡⟨ move-all-value (letters f) (u ++ r) ⟩
+    onInner (act (letters f)) (value (u ++ r))
+    ≡⟨ on-inner-cong (act (letters f)) (levelsMap f) (act-letters f) (value (u ++ r)) ⟩
+    onInner (levelsMap f) (value (u ++ r))
+    ≡⟨ ap (onInner (levelsMap f)) (value-append u r) ⟩
+    onInner (levelsMap f) (withDigits u (value r))
+    ≡⟨ levels-send f t s pair k u v (value r) (to-leaf t k u lt) (to-leaf s k v ls) ⟩
+    withDigits v (value r)
+    ≡⟨ sym (value-append v r) ⟩
+    value (v ++ r) ∎))
 
 -- Every point below 1 lies in a leaf.
 pub in-leaf : (t : Tree) (p : List Digit) → InLeaf t p

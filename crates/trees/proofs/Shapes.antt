@@ -2,7 +2,7 @@
 -- pair and the length').
 --     shape-read    reading undoes writing          exact-shape   bytes are a shape just when they are exact
 -- Assumes nothing.
-use mathlib.Core.Path.{_≡_, refl, sym, _∙_, ap, subst}
+use mathlib.Core.Path.{_≡_, refl, sym, _∙_, ap, subst, _≡⟨_⟩_, _∎}
 use mathlib.Core.List.{List, [], _∷_, _++_, append-assoc, append-nil}
 use mathlib.Core.Logic.{_↔_}
 use Prim.Native.Nat.{ℕ, zero, suc}
@@ -22,9 +22,10 @@ pub shapes-read : (t : Tree) (s : List ℕ) → readShapes (shape t ++ s) ≡ t 
 shapes-read leaf s = refl
 shapes-read (caret l r) s =
     let e : readShapes ((shape l ++ shape r) ++ s) ≡ l ∷ (r ∷ readShapes s) =
-    ap readShapes (append-assoc (shape l) (shape r) s)
-    ∙ shapes-read l (shape r ++ s)
-    ∙ ap (λ (ts : List Tree). l ∷ ts) (shapes-read r s) in
+    readShapes ((shape l ++ shape r) ++ s) ≡⟨ ap readShapes (append-assoc (shape l) (shape r) s) ⟩
+    readShapes (shape l ++ (shape r ++ s)) ≡⟨ shapes-read l (shape r ++ s) ⟩
+    l ∷ readShapes (shape r ++ s) ≡⟨ ap (λ (ts : List Tree). l ∷ ts) (shapes-read r s) ⟩
+    l ∷ (r ∷ readShapes s) ∎ in
     rw e refl
 
 -- The tree is read off its shape.
@@ -33,7 +34,11 @@ shape-read t = ap readShape (sym (append-nil (shape t))) ∙ ap firstTree (shape
 
 -- A shape is that of one tree.
 pub shape-injective : (t u : Tree) → shape t ≡ shape u → t ≡ u
-shape-injective t u e = sym (shape-read t) ∙ ap readShape e ∙ shape-read u
+shape-injective t u e =
+    t ≡⟨ sym (shape-read t) ⟩
+    readShape (shape t) ≡⟨ ap readShape e ⟩
+    readShape (shape u) ≡⟨ shape-read u ⟩
+    u ∎
 
 -- The shape of a tree in front of those of n trees.
 exact-more : (t : Tree) (n : ℕ) (s : List ℕ) → Exact s n → Exact (shape t ++ s) (suc n)
@@ -85,7 +90,10 @@ exact-shape s = (
     one [] e p = absurd (omega arith)
     one (t ∷ []) e p =
         let q : shape t ≡ s = sym (append-nil (shape t)) ∙ p in
-        ap (λ (x : List ℕ). shape (readShape x)) (sym q) ∙ ap shape (shape-read t) ∙ q
+        shape (readShape s) ≡⟨ ap (λ (x : List ℕ). shape (readShape x)) (sym q) ⟩
+        shape (readShape (shape t)) ≡⟨ ap shape (shape-read t) ⟩
+        shape t ≡⟨ q ⟩
+        s ∎
     one (t ∷ (u ∷ ts)) e p = absurd (omega arith)
 
     go : (ts : List Tree) × (length ts ≡ 1) × (shapes ts ≡ s) → shape (readShape s) ≡ s

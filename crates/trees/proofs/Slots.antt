@@ -3,14 +3,14 @@
 --     powersMap es    the map of x0^e0 x1^e1 …          withDigits u c   the digits u in front of a point
 --     slot n k c      a point in slot k of n carets     slot-to-leaf     where the map sends it
 -- Assumes nothing.
-use mathlib.Core.Path.{_≡_, refl, sym, _∙_, ap, ap₂}
+use mathlib.Core.Path.{_≡_, refl, sym, _∙_, ap, ap₂, _≡⟨_⟩_, _∎}
 use mathlib.Core.List.{List, [], _∷_, _++_, append-assoc}
 use Prim.Native.Nat.{ℕ, zero, suc, _+_, _<_}
 use native.Mathlib.Omega.{arith}
 use Rattle.lists.specs.Entries.{SameEntries}
 use Rattle.group.specs.Points.{Digit, 𝟎, 𝟏}
 use Rattle.group.specs.Forms.{bSide, aSide, Form, empty, level, exponents}
-use Rattle.group.proofs.Inner.{Inner, map-a, lift, lift-id, lift-lift, lift-cong}
+use Rattle.group.proofs.Inner.{Inner, map-a, map-A, lift, lift-id, lift-lift, lift-cong}
 use Rattle.group.proofs.Actions.{iter, levelsMap}
 use Rattle.group.proofs.Slope.{iter-undo}
 use Rattle.group.proofs.Values.{Low, nought, inside, withDigit, onInner}
@@ -29,18 +29,23 @@ pub form-sides : (f : Form) (p : Inner)
     → levelsMap f (powersMap (exponents aSide f) p) ≡ powersMap (exponents bSide f) p
 form-sides empty p = refl
 form-sides (level b a f) p =
-    ap (iter map-a b)
-    (ap (lift (levelsMap f)) (iter-undo a (lift (powersMap (exponents aSide f)) p))
-    ∙ lift-lift (levelsMap f) (powersMap (exponents aSide f)) p
-    ∙ lift-cong (form-sides f) p)
+    let es : List ℕ = exponents aSide f in
+    iter map-a b (lift (levelsMap f) (iter map-A a (iter map-a a (lift (powersMap es) p))))
+    ≡⟨ ap (λ q. iter map-a b (lift (levelsMap f) q)) (iter-undo a (lift (powersMap es) p)) ⟩
+    iter map-a b (lift (levelsMap f) (lift (powersMap es) p))
+    ≡⟨ ap (iter map-a b) (lift-lift (levelsMap f) (powersMap es) p) ⟩
+    iter map-a b (lift (λ q. levelsMap f (powersMap es q)) p)
+    ≡⟨ ap (iter map-a b) (lift-cong (form-sides f) p) ⟩
+    iter map-a b (lift (powersMap (exponents bSide f)) p) ∎
 
 -- Zeros move no point.
 powers-none : (es : List ℕ) → SameEntries es [] → (p : Inner) → powersMap es p ≡ p
 powers-none [] h p = refl
 powers-none (e ∷ es) h p =
-    ap (λ (k : ℕ). iter map-a k (lift (powersMap es) p)) (h 0)
-    ∙ lift-cong (powers-none es (λ i. h (suc i))) p
-    ∙ lift-id p
+    iter map-a e (lift (powersMap es) p) ≡⟨ ap (λ (k : ℕ). iter map-a k (lift (powersMap es) p)) (h 0) ⟩
+    lift (powersMap es) p ≡⟨ lift-cong (powers-none es (λ i. h (suc i))) p ⟩
+    lift (λ q. q) p ≡⟨ lift-id p ⟩
+    p ∎
 
 -- Lists with the same entries have the same map.
 pub powers-same : (es fs : List ℕ) → SameEntries es fs → (p : Inner) → powersMap es p ≡ powersMap fs p
@@ -112,13 +117,21 @@ subtree-behind : (l : Tree) (es : List ℕ) (c : Low)
     → lowPowers (leftEdge l ∷ (later l ++ es)) (withOnes (suc (carets l)) c) ≡ withDigit 𝟏 (lowPowers es c)
 subtree-behind leaf es c = sym (lift-behind-1 (powersMap es) c)
 subtree-behind (caret l r) es c =
-    ap (lowPowers (suc (leftEdge l) ∷ ((later l ++ (leftEdge r ∷ later r)) ++ es)))
-    (with-ones-add (suc (carets l)) (suc (carets l + suc (carets r))) (suc (carets r)) c (omega arith))
-    ∙ more-carets l r es (withOnes (suc (carets l)) (withOnes (suc (carets r)) c))
-    ∙ ap (onInner map-a)
-    (subtree-behind l (leftEdge r ∷ (later r ++ es)) (withOnes (suc (carets r)) c)
-    ∙ ap (withDigit 𝟏) (subtree-behind r es c))
-    ∙ sym (a-on-11 (lowPowers es c))
+    let n : ℕ = suc (carets l) in
+    let d : Low = withOnes (suc (carets r)) c in
+    let fs : List ℕ = leftEdge r ∷ (later r ++ es) in
+    let all : List ℕ = leftEdge (caret l r) ∷ (later (caret l r) ++ es) in
+    lowPowers all (withOnes (suc (carets (caret l r))) c)
+    ≡⟨ ap (lowPowers all) (with-ones-add n (suc (carets l + suc (carets r))) (suc (carets r)) c (omega arith)) ⟩
+    lowPowers all (withOnes n d)
+    ≡⟨ more-carets l r es (withOnes n d) ⟩
+    onInner map-a (lowPowers (leftEdge l ∷ (later l ++ fs)) (withOnes n d))
+    ≡⟨ ap (onInner map-a) (subtree-behind l fs d) ⟩
+    onInner map-a (withDigit 𝟏 (lowPowers fs d))
+    ≡⟨ ap (λ (x : Low). onInner map-a (withDigit 𝟏 x)) (subtree-behind r es c) ⟩
+    onInner map-a (withDigit 𝟏 (withDigit 𝟏 (lowPowers es c)))
+    ≡⟨ sym (a-on-11 (lowPowers es c)) ⟩
+    withDigit 𝟏 (lowPowers es c) ∎
 
 subtree-in : (l : Tree) (k : ℕ) (u : Address) (es : List ℕ) (c : Low) → LeafAt l k u
     → lowPowers (leftEdge l ∷ (later l ++ es)) (slot (suc k) k c) ≡ withDigit 𝟎 (withDigits u c)
@@ -126,17 +139,32 @@ subtree-in leaf k [] es c h = rw h (sym (lift-behind-0 (powersMap es) c))
 subtree-in leaf k (d ∷ u) es c h = absurd h
 subtree-in (caret l r) k [] es c h = absurd h
 subtree-in (caret l r) k (𝟎 ∷ u) es c h =
-    more-carets l r es (slot (suc k) k c)
-    ∙ ap (onInner map-a) (subtree-in l k u (leftEdge r ∷ (later r ++ es)) c h)
-    ∙ sym (a-on-0 (withDigits u c))
+    let fs : List ℕ = leftEdge r ∷ (later r ++ es) in
+    lowPowers (leftEdge (caret l r) ∷ (later (caret l r) ++ es)) (slot (suc k) k c)
+    ≡⟨ more-carets l r es (slot (suc k) k c) ⟩
+    onInner map-a (lowPowers (leftEdge l ∷ (later l ++ fs)) (slot (suc k) k c))
+    ≡⟨ ap (onInner map-a) (subtree-in l k u fs c h) ⟩
+    onInner map-a (withDigit 𝟎 (withDigits u c))
+    ≡⟨ sym (a-on-0 (withDigits u c)) ⟩
+    withDigit 𝟎 (withDigit 𝟎 (withDigits u c)) ∎
 subtree-in (caret l r) k (𝟏 ∷ u) es c h =
-    more-carets l r es (slot (suc k) k c)
-    ∙ ap (λ (d : Low). onInner map-a (lowPowers (leftEdge l ∷ (later l ++ (leftEdge r ∷ (later r ++ es)))) d))
-    (slot-ones (suc (carets l)) (suc k) k (h .0) (suc (h .0)) c (omega (arith, h .1)) (omega (arith, h .1)))
-    ∙ ap (onInner map-a)
-    (subtree-behind l (leftEdge r ∷ (later r ++ es)) (slot (suc (h .0)) (h .0) c)
-    ∙ ap (withDigit 𝟏) (subtree-in r (h .0) u es c (h .2)))
-    ∙ sym (a-on-10 (withDigits u c))
+    let n : ℕ = suc (carets l) in
+    let j : ℕ = h .0 in
+    let d : Low = slot (suc j) j c in
+    let fs : List ℕ = leftEdge r ∷ (later r ++ es) in
+    let ones : slot (suc k) k c ≡ withOnes n d =
+    slot-ones n (suc k) k j (suc j) c (omega (arith, h .1)) (omega (arith, h .1)) in
+    lowPowers (leftEdge (caret l r) ∷ (later (caret l r) ++ es)) (slot (suc k) k c)
+    ≡⟨ more-carets l r es (slot (suc k) k c) ⟩
+    onInner map-a (lowPowers (leftEdge l ∷ (later l ++ fs)) (slot (suc k) k c))
+    ≡⟨ ap (λ (x : Low). onInner map-a (lowPowers (leftEdge l ∷ (later l ++ fs)) x)) ones ⟩
+    onInner map-a (lowPowers (leftEdge l ∷ (later l ++ fs)) (withOnes n d))
+    ≡⟨ ap (onInner map-a) (subtree-behind l fs d) ⟩
+    onInner map-a (withDigit 𝟏 (lowPowers fs d))
+    ≡⟨ ap (λ (x : Low). onInner map-a (withDigit 𝟏 x)) (subtree-in r j u es c (h .2)) ⟩
+    onInner map-a (withDigit 𝟏 (withDigit 𝟎 (withDigits u c)))
+    ≡⟨ sym (a-on-10 (withDigits u c)) ⟩
+    withDigit 𝟎 (withDigit 𝟏 (withDigits u c)) ∎
 
 -- The powers with the exponents of a tree send slot k to leaf k.
 pub slot-to-leaf : (t : Tree) (k : ℕ) (u : Address) (c : Low) → LeafAt t k u
@@ -150,7 +178,15 @@ slot-to-leaf (caret l r) k (𝟎 ∷ u) c h =
     (slot-low k (carets l + suc (carets r)) (suc k) c (omega (arith, leaf-le l k u h)) (omega arith))
     ∙ subtree-in l k u (exponentsOf r) c h
 slot-to-leaf (caret l r) k (𝟏 ∷ u) c h =
-    ap (lowPowers (leftEdge l ∷ (later l ++ exponentsOf r)))
-    (slot-ones (suc (carets l)) (carets l + suc (carets r)) k (h .0) (carets r) c (omega (arith, h .1)) (omega arith))
-    ∙ subtree-behind l (exponentsOf r) (slot (carets r) (h .0) c)
-    ∙ ap (withDigit 𝟏) (slot-to-leaf r (h .0) u c (h .2))
+    let n : ℕ = suc (carets l) in
+    let j : ℕ = h .0 in
+    let d : Low = slot (carets r) j c in
+    let ones : slot (carets (caret l r)) k c ≡ withOnes n d =
+    slot-ones n (carets l + suc (carets r)) k j (carets r) c (omega (arith, h .1)) (omega arith) in
+    lowPowers (exponentsOf (caret l r)) (slot (carets (caret l r)) k c)
+    ≡⟨ ap (lowPowers (leftEdge l ∷ (later l ++ exponentsOf r))) ones ⟩
+    lowPowers (leftEdge l ∷ (later l ++ exponentsOf r)) (withOnes n d)
+    ≡⟨ subtree-behind l (exponentsOf r) d ⟩
+    withDigit 𝟏 (lowPowers (exponentsOf r) d)
+    ≡⟨ ap (withDigit 𝟏) (slot-to-leaf r j u c (h .2)) ⟩
+    withDigit 𝟏 (withDigits u c) ∎

@@ -2,7 +2,7 @@
 --     node-bytes    the bytes from node k on are those of its subtree x and others
 --     subtree-end   the subtree ends at k + 2M + 1, M the carets of x, and subtreeEnd finds this place
 -- Assumes nothing.
-use mathlib.Core.Path.{_≡_, refl, sym, _∙_, ap}
+use mathlib.Core.Path.{_≡_, refl, sym, _∙_, ap, _≡⟨_⟩_, _∎}
 use mathlib.Core.List.{List, [], _∷_, _++_, append-assoc, append-nil}
 use Prim.Native.Nat.{ℕ, suc, _+_, _≤_}
 use native.Mathlib.Omega.{arith}
@@ -41,9 +41,13 @@ bytes-at (caret l r) k (𝟎 ∷ u) x h g =
       number = omega (arith, b .number, h .1);
       whole =
           ap (λ (s : List ℕ). 1 ∷ s)
-          (ap (λ (s : List ℕ). s ++ shape r) (b .whole)
-          ∙ append-assoc (b .front) (shape x ++ b .back) (shape r)
-          ∙ ap (λ (s : List ℕ). b .front ++ s) (append-assoc (shape x) (b .back) (shape r)));
+          (shape l ++ shape r
+          ≡⟨ ap (λ (s : List ℕ). s ++ shape r) (b .whole) ⟩
+          (b .front ++ (shape x ++ b .back)) ++ shape r
+          ≡⟨ append-assoc (b .front) (shape x ++ b .back) (shape r) ⟩
+          b .front ++ ((shape x ++ b .back) ++ shape r)
+          ≡⟨ ap (λ (s : List ℕ). b .front ++ s) (append-assoc (shape x) (b .back) (shape r)) ⟩
+          b .front ++ (shape x ++ (b .back ++ shape r)) ∎);
     }
 bytes-at (caret l r) k (𝟏 ∷ u) x h g =
     let b = bytes-at r (h .0) u x (h .2) g in

@@ -2,7 +2,7 @@
 --     own n        the nodes of a leaf: the n carets that begin at it, and itself
 --     Pending      the loop over the leaves of an interior subtree
 -- Assumes nothing.
-use mathlib.Core.Path.{_≡_, refl, sym, ap, _∙_}
+use mathlib.Core.Path.{_≡_, refl, sym, ap, _∙_, _≡⟨_⟩_, _∎}
 use mathlib.Core.List.{List, [], _∷_, _++_}
 use Prim.Native.Nat.{ℕ, zero, suc, _+_, _-_, _<_, _≤_}
 use native.Mathlib.Nat.{zero-add, add-zero, not-suc-le-zero, le-of-suc-le-suc}
@@ -31,9 +31,14 @@ pub own-wrote : (n at : ℕ) (entry mid : List ℕ) → mid ≡ sets entry at (r
 own-wrote n at entry mid e = record {
   ends = omega (arith, own-length n);
   holds =
-      ap (λ (l : List ℕ). set l (at + n) 0) e
-      ∙ ap (λ (k : ℕ). set (sets entry at (replicate n 1)) (at + k) 0) (sym (length-replicate n 1))
-      ∙ sets-append (replicate n 1) entry at (0 ∷ []);
+      let ones : List ℕ = replicate n 1 in
+      set mid (at + n) 0
+      ≡⟨ ap (λ (l : List ℕ). set l (at + n) 0) e ⟩
+      set (sets entry at ones) (at + n) 0
+      ≡⟨ ap (λ (k : ℕ). set (sets entry at ones) (at + k) 0) (sym (length-replicate n 1)) ⟩
+      set (sets entry at ones) (at + length ones) 0
+      ≡⟨ sets-append ones entry at (0 ∷ []) ⟩
+      sets entry at (own n) ∎;
 }
 
 -- A caret of the right side begins before the subtree that hangs on it.
@@ -76,9 +81,11 @@ module _ (e : List ℕ) (k o n : ℕ) (some : 0 < o) (is : n ≡ getD e k 0) whe
 
   step-length : length (nodesFrom (drop k e) o) ≡ n + 1 + length (nodesFrom (drop (k + 1) e) (o - 1 + n))
   step-length =
-      ap length step-nodes
-      ∙ length-append (own n) (nodesFrom (drop (k + 1) e) (o - 1 + n))
-      ∙ ap (λ (m : ℕ). m + length (nodesFrom (drop (k + 1) e) (o - 1 + n))) (own-length n)
+      let rest : List ℕ = nodesFrom (drop (k + 1) e) (o - 1 + n) in
+      length (nodesFrom (drop k e) o) ≡⟨ ap length step-nodes ⟩
+      length (own n ++ rest) ≡⟨ length-append (own n) rest ⟩
+      length (own n) + length rest ≡⟨ ap (λ (m : ℕ). m + length rest) (own-length n) ⟩
+      n + 1 + length rest ∎
 
 -- Amid the leaves of the interior subtree that begins at leaf k₀: o subtrees are pending.
 pub record Pending (e : List ℕ) (k₀ : ℕ) (entry : List ℕ) (at : ℕ) (now : List ℕ) (k p o : ℕ) : Type 0 where

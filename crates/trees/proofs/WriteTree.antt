@@ -1,6 +1,6 @@
 -- The whole tree, written from its first leaf: the exponents of the n first leaves decide it. A table with fewer
 -- entries is copied to the front of zeros, which has the same tree. Assumes nothing.
-use mathlib.Core.Path.{_≡_, refl, sym, ap, _∙_}
+use mathlib.Core.Path.{_≡_, refl, sym, ap, _∙_, _≡⟨_⟩_, _∎}
 use mathlib.Core.List.{List}
 use Prim.Native.Nat.{ℕ, zero, suc, _<_, _≤_}
 use native.Mathlib.Omega.{arith}
@@ -10,6 +10,7 @@ use lib.Seq.{getD-take}
 use Rattle.lists.specs.Entries.{SameEntries}
 use Rattle.lists.proofs.Tables.{filled-length, filled-at, filled-beyond}
 use Rattle.lists.proofs.Totals.{same-replicate}
+use Rattle.trees.specs.Trees.{carets}
 use Rattle.trees.specs.Building.{needed, treeOf}
 use Rattle.trees.specs.Pairs.{maxCarets}
 use Rattle.trees.specs.Shapes.{shape, shapeSize}
@@ -47,7 +48,10 @@ module _ {e : List ℕ} {n : ℕ} {buffer : List ℕ} (f : Fits e n buffer) (who
   pub tree-room : Room (take n e) 0 0 0 buffer
   tree-room =
       let l : length (nodesFrom (take n e) 0) ≡ shapeSize n =
-      ap length tree-nodes ∙ shape-length (treeOf n e) ∙ ap shapeSize (tree-carets n e (f .enough)) in
+      length (nodesFrom (take n e) 0) ≡⟨ ap length tree-nodes ⟩
+      length (shape (treeOf n e)) ≡⟨ shape-length (treeOf n e) ⟩
+      shapeSize (carets (treeOf n e)) ≡⟨ ap shapeSize (tree-carets n e (f .enough)) ⟩
+      shapeSize n ∎ in
       record {
         room = omega (arith, l, f .room);
         small = omega (arith, l, f .small);
@@ -61,9 +65,13 @@ copied-same e m i = go (decLt i (length e))
     go : Dec (i < length e) → getD (copiedFront e (replicate m 0)) i 0 ≡ getD e i 0
     go (yes h) = filled-at (length e) (λ j. getD e j 0) (replicate m 0) i h
     go (no h) =
-        filled-beyond (length e) (λ j. getD e j 0) (replicate m 0) i (omega arith)
-        ∙ same-replicate m i
-        ∙ sym (List·getD-eq-default e 0 (omega arith))
+        getD (copiedFront e (replicate m 0)) i 0
+        ≡⟨ filled-beyond (length e) (λ j. getD e j 0) (replicate m 0) i (omega arith) ⟩
+        getD (replicate m 0) i 0
+        ≡⟨ same-replicate m i ⟩
+        0
+        ≡⟨ sym (List·getD-eq-default e 0 (omega arith)) ⟩
+        getD e i 0 ∎
 
 -- It needs as many carets and has the same tree.
 module _ {e : List ℕ} {n : ℕ} {buffer : List ℕ} (f : Fits e n buffer) {table : List ℕ}
@@ -73,10 +81,12 @@ module _ {e : List ℕ} {n : ℕ} {buffer : List ℕ} (f : Fits e n buffer) {tab
 
   table-length : length table ≡ maxCarets
   table-length =
-      let size : length (replicate {A = ℕ} maxCarets 0) ≡ maxCarets = length-replicate {A = ℕ} maxCarets 0 in
-      ap length copied
-      ∙ filled-length (length e) (λ j. getD e j 0) (replicate maxCarets 0) (omega (arith, f .entries))
-      ∙ size
+      let zeros : List ℕ = replicate maxCarets 0 in
+      let size : length zeros ≡ maxCarets = length-replicate {A = ℕ} maxCarets 0 in
+      length table ≡⟨ ap length copied ⟩
+      length (copiedFront e zeros) ≡⟨ filled-length (length e) (λ j. getD e j 0) zeros (omega (arith, f .entries)) ⟩
+      length zeros ≡⟨ size ⟩
+      maxCarets ∎
 
   pub copied-fits : Fits table n buffer
   copied-fits = record {
