@@ -1,26 +1,36 @@
 -- The demands of specs/Demands.antt, proved, call by call. Assumes nothing.
-use mathlib.Core.Path.{_≡_, sym, ap, _∙_}
+use mathlib.Core.Path.{_≡_, refl, sym, ap, _∙_}
 use mathlib.Core.List.{List}
 use mathlib.Core.Logic.{_↔_}
 use Prim.Native.Nat.{ℕ}
-use lib.ListN.{length, take}
+use lib.ListN.{length}
 use Rattle.group.specs.Letters.{Word}
 use Rattle.group.specs.Bytes.{bytesOf}
 use Rattle.group.specs.Chains.{Joined}
-use Rattle.refusals.specs.Outcomes.{accepted, writtenOf}
+use Rattle.group.specs.Forms.{Form}
+use Rattle.refusals.specs.Outcomes.{writtenOf, verdictOf}
+use Rattle.refusals.specs.declared.Verdict.{Verdict}
 use Rattle.refusals.specs.declared.Written.{Written}
+use Rattle.records.specs.Format.{IsRecord}
 use Rattle.records.specs.Reading.{decode}
+use Rattle.records.specs.Contracts.{Checked}
 use Rattle.lengths.specs.Weights.{formLength}
 use Rattle.words.specs.Recording.{Memory, recordOfWord, judgedWith, Recorded}
+use Rattle.words.specs.Comparing.{decisionOf, same, different}
+use Rattle.thompson.specs.Codes.{readOutcome, outcomeOf}
+use Rattle.thompson.proofs.Codes.{written-read}
 use Rattle.claims.specs.Refusals.{WordRefusal, RecordRefusal}
-use Rattle.claims.specs.Answers.{IsRefused, Refuses}
+use Rattle.claims.specs.Answers.{IsRefused, IsAccepted, Refuses}
+use Rattle.claims.specs.Calls.{WordCall, recordBy, SpellingCall, spelledBy, TwoWordCall, ExportedCall}
 use Rattle.claims.specs.Demands.{Demand1, Demand2, Demand3}
 use Rattle.claims.proofs.Answers.{is-refused, refuses-when}
+use Rattle.claims.proofs.Records.{records-are-accepted}
 use Rattle.claims.proofs.Refusals.{judged↔refusal, no-refusal↔none, judged-accepted, decoded↔refusal}
 use Rattle.claims.proofs.WordCalls.{left-refused, records↔joined, call-of, call-keeps-map, call-front}
+use Rattle.claims.proofs.WordCalls.{recorded-form}
 use Rattle.claims.proofs.TwoWordCalls.{two-refused, own-calls, two-decided}
 use Rattle.claims.proofs.PairCalls.{pair-refused, pair-gives, length-gives}
-use Rattle.claims.proofs.SpellingCalls.{spelling-refused, spelled-as, word-of-record, spelled-unless-long}
+use Rattle.claims.proofs.SpellingCalls.{spelling-refused, spelled-as, word-of-record}
 use Rattle.claims.proofs.SpellingCalls.{joined-spelling, spelling-sent, spelling-again}
 
 -- Word to record refuses as the word is judged, and then leaves everything.
@@ -33,49 +43,96 @@ word-refused {u} {m} h = (
       left-refused (o .0) (o .1) (o .2) (h .leaves)),
 )
 
+-- The check refuses as the record is refused.
+check-refused : {s : List ℕ} {r : Verdict} → Checked s r → Refuses (verdictOf r) (RecordRefusal s)
+check-refused {s} h =
+    refuses-when (λ f. 0) (decode s) (h .result) (RecordRefusal s) (decoded↔refusal s (h .are-bytes))
+
+-- It accepts the records of forms and nothing else.
+check-accepts : {s : List ℕ} {r : Verdict} → Checked s r → IsAccepted (verdictOf r) ↔ ((f : Form) × IsRecord s f)
+check-accepts {s} h =
+    let accepts = check-refused h .accepted-just-when in
+    let records = records-are-accepted s (h .are-bytes) in
+    ((λ a. records .0 (accepts .0 a)), λ f. accepts .1 (records .1 f))
+
 -- Two accepted words have equal records just when a chain joins them.
-equal↔joined : {u v : List ℕ} {m m′ k k′ : Memory} {r q : Written} {n l : ℕ} (w x : Word)
-    → Recorded u m m′ r → writtenOf r ≡ accepted n → u ≡ bytesOf w
-    → Recorded v k k′ q → writtenOf q ≡ accepted l → v ≡ bytesOf x
-    → ((n ≡ l) × (take n (m′ .buffer) ≡ take l (k′ .buffer))) ↔ Joined w x
-equal↔joined {u} {v} {m} {m′} {k} w x h e b g f a =
-    let one = call-front h e b in
-    let two = call-front g f a in
-    let joins = records↔joined u v m k w x (one .judged-so) (two .judged-so) in (
-      (λ eq. joins .0 (sym (one .front) ∙ eq .1 ∙ two .front)),
-      (λ j.
-          let same = joins .1 j in
-          (one .count ∙ ap length same ∙ sym (two .count), one .front ∙ same ∙ sym (two .front))),
+equal↔joined : (w x : Word) (f : WordCall w) (g : WordCall x) → (recordBy f ≡ recordBy g) ↔ Joined w x
+equal↔joined w x f g =
+    let one = call-front {w = w} (f .contract) (f .taken) refl in
+    let two = call-front {w = x} (g .contract) (g .taken) refl in
+    let joins = records↔joined (bytesOf w) (bytesOf x) (f .lent) (g .lent) w x (one .judged-so) (two .judged-so) in (
+      (λ e. joins .0 (sym (one .front) ∙ e ∙ two .front)),
+      (λ j. one .front ∙ joins .1 j ∙ sym (two .front)),
     )
+
+-- An accepted exported call is an accepted call.
+abbrev passed-on : {w : Word} → ExportedCall w → WordCall w
+passed-on f = record {
+  lent = f .lent;
+  left = f .left;
+  answer = f .contract .passed;
+  count = f .answer .value;
+  contract = f .contract .meets;
+  taken =
+      sym (written-read (f .contract .passed))
+      ∙ sym (ap outcomeOf (f .contract .numbers))
+      ∙ ap (λ (n : ℕ). readOutcome n (f .answer .value)) (f .taken);
+}
+
+-- A two-word call that answers has judged both words good.
+decides↔joined : (w x : Word) (f : TwoWordCall (bytesOf w) (bytesOf x))
+    → ((decisionOf (f .answer) ≡ same) ↔ Joined w x) × ((decisionOf (f .answer) ≡ different) ↔ (Joined w x → ⊥))
+decides↔joined w x f =
+    let m = f .lent1 in
+    let k = f .lent2 in
+    let refused = two-refused (bytesOf w) (bytesOf x) m (f .left1) k (f .left2) (f .answer) (f .contract) .0 in
+    let none = refused .answered-just-when .0 (f .taken) in
+    two-decided (bytesOf w) (bytesOf x) m (f .left1) k (f .left2) (f .answer) (f .contract) w x
+    (judged-accepted (bytesOf w) m w (no-refusal↔none (bytesOf w) m .1 (none .0)) refl)
+    (judged-accepted (bytesOf x) k x (no-refusal↔none (bytesOf x) k .1 (none .1)) refl)
+
+-- The spelling of a word's record is joined to the word.
+spelling-joins : (w x : Word) (f : WordCall w) (g : SpellingCall (recordBy f)) → spelledBy g ≡ bytesOf x → Joined x w
+spelling-joins w x f g =
+    joined-spelling (spelled-as (g .contract) (g .taken) .1) (recorded-form w (f .contract) (f .taken) refl)
+
+-- The record of the spelling is the record.
+spelling-recorded : (s : List ℕ) (g : SpellingCall s) (x : Word) (f : WordCall x) → spelledBy g ≡ bytesOf x
+    → recordBy f ≡ s
+spelling-recorded s g x f e =
+    call-front {w = x} (f .contract) (f .taken) refl .front
+    ∙ spelling-again x (g .contract .are-bytes) (spelled-as (g .contract) (g .taken) .1) e
 
 pub demand1 : Demand1
 demand1 = record {
-  word-to-record = λ u m m′ r h. word-refused h;
-  accepted-word = no-refusal↔none;
-  check-record = λ s r bytes h. refuses-when (λ f. 0) (decode s) h (RecordRefusal s) (decoded↔refusal s bytes);
-  record-to-tree-pair = λ s m p m′ p′ r h. pair-refused h;
-  record-to-length = λ s r bytes h. refuses-when formLength (decode s) h (RecordRefusal s) (decoded↔refusal s bytes);
-  record-to-word = λ s w w′ r h. spelling-refused h;
+  word-to-record = λ u m m′ r. word-refused;
+  check-record = λ s r. check-refused;
+  record-to-tree-pair = λ s p q p′ q′ r. pair-refused;
+  record-to-length = λ s r h.
+      refuses-when formLength (decode s) (h .result) (RecordRefusal s) (decoded↔refusal s (h .are-bytes));
+  record-to-word = λ s t t′ r. spelling-refused;
   same-element = two-refused;
+  accepted-word = no-refusal↔none;
+  accepted-record = λ s r. check-accepts;
 }
 
 pub demand2 : Demand2
 demand2 = record {
   is-word = λ u m m′ r n h e. let call = call-of h e in (call .word, call .bytes);
-  keeps-map = λ u m m′ r n w h e b. call-keeps-map h e b;
-  gives-pair = λ s m p m′ p′ r n h. pair-gives h n;
-  gives-length = length-gives;
-  gives-word = λ s w w′ r n h a. word-of-record (spelled-as h a .1);
-  unless-long = λ s w w′ r f h d room. spelled-unless-long f h d room;
-  joined = λ s w w′ u m m′ r q n l x y h a t g e b eq. joined-spelling (spelled-as h a .1) t g e b eq;
-  accepted-again = λ s w w′ m r n h a. spelling-sent m (spelled-as h a .1);
-  record-again = λ s w w′ m m′ r q n l bytes h a g e. spelling-again bytes (spelled-as h a .1) g e;
-  leaves-both = own-calls;
+  keeps-map = λ w f. call-keeps-map (f .contract) (f .taken) refl;
+  gives-pair = λ s f. pair-gives (f .contract) (f .count) (f .taken);
+  gives-length = λ s f. length-gives s (f .answer) (f .count) (f .contract) (f .taken);
+  gives-word = λ s t t′ r. word-of-record;
+  joined = spelling-joins;
+  accepted-again = λ s g m. spelling-sent m (spelled-as (g .contract) (g .taken) .1);
+  record-again = spelling-recorded;
+  leaves-both = λ u v f.
+      own-calls u v (f .lent1) (f .left1) (f .lent2) (f .left2) (f .answer) (f .contract) (f .taken);
 }
 
 pub demand3 : Demand3
 demand3 = record {
-  equal-just-when-joined = λ u v m m′ k k′ r q n l w x. equal↔joined w x;
-  same-just-when-joined = λ u v m m′ k k′ c w x h none b nor a.
-      two-decided u v m m′ k k′ c h w x (judged-accepted u m w none b) (judged-accepted v k x nor a);
+  equal-just-when-joined = equal↔joined;
+  exported-just-when-joined = λ w x f g. equal↔joined w x (passed-on f) (passed-on g);
+  same-just-when-joined = decides↔joined;
 }

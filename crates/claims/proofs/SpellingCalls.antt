@@ -210,8 +210,8 @@ word-of-record {s} {w} {w′} {r} h none = go (find s (length w))
 
 -- The spelling is joined to a word whose form is that of the record.
 pub joined-spelling : {s w w′ : List ℕ} {n : ℕ} {x y : Word} {f : Form} → SpelledAs s w w′ n f
-    → take n w′ ≡ bytesOf x → decode s ≡ accepted (formOf y) → Joined x y
-joined-spelling {s} {w} {w′} {n} {x} {y} {f} c a reads =
+    → decode s ≡ accepted (formOf y) → take n w′ ≡ bytesOf x → Joined x y
+joined-spelling {s} {w} {w′} {n} {x} {y} {f} c reads a =
     let one : x ≡ spelling f = bytes-injective x (spelling f) (sym a ∙ front-spelled c) in
     let same : f ≡ formOf y = accepted-same (sym (c .reads) ∙ reads) in
     subst (λ (z : Word). Joined z y) (sym one)
@@ -230,9 +230,9 @@ spelling-sent {s} {w} {w′} {n} {f} m c tables buffer =
     }
 
 -- The record of the spelling.
-pub spelling-again : {s w w′ : List ℕ} {n : ℕ} {x : Word} {f : Form} → Bytes s → SpelledAs s w w′ n f
+pub spelling-again : {s w w′ : List ℕ} {n : ℕ} {f : Form} (x : Word) → Bytes s → SpelledAs s w w′ n f
     → take n w′ ≡ bytesOf x → recordOfWord x ≡ s
-spelling-again {s} {w} {w′} {n} {x} {f} bytes c a =
+spelling-again {s} {w} {w′} {n} {f} x bytes c a =
     let one : x ≡ spelling f = bytes-injective x (spelling f) (sym a ∙ front-spelled c) in
     let good = decode-form s f (c .reads) in
     let same : f ≡ formOf (spelling f) =

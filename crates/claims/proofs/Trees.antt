@@ -1,13 +1,22 @@
 -- The claims of specs/Trees.antt, proved. Assumes nothing.
-use mathlib.Core.Path.{_≡_, refl, sym, ap₂}
+use mathlib.Core.Path.{_≡_, refl, sym, ap₂, _∙_}
 use mathlib.Core.List.{List}
 use mathlib.Core.Logic.{_↔_}
-use Prim.Native.Nat.{ℕ}
+use Prim.Native.Nat.{ℕ, suc, _<_}
 use native.Mathlib.Numerals.{add-one}
-use Rattle.lists.specs.Entries.{At}
+use native.Mathlib.Omega.{arith}
+use native.Mathlib.Decide.{decLt}
+use lib.ListN.{getD, List·getD-eq-default}
+use Rattle.lists.specs.Entries.{At, SameEntries}
 use Rattle.lists.proofs.Entries.{at-same-list}
+use Rattle.group.specs.Forms.{Side, bSide, aSide, onSide, exponent, exponents}
 use Rattle.group.specs.Limits.{limit}
-use Rattle.trees.specs.Trees.{Tree}
+use Rattle.group.proofs.Exponents.{exponents-at}
+use Rattle.records.specs.Reading.{formUpTo}
+use Rattle.records.proofs.Levels.{upTo-below, upTo-behind}
+use Rattle.trees.specs.Trees.{Tree, carets}
+use Rattle.trees.proofs.Readings.{exponentsOf}
+use Rattle.trees.proofs.Exponents.{exponents-length, side-exponents}
 use Rattle.trees.proofs.Leaves.{leaves-length}
 use Rattle.trees.proofs.Carets as Carets
 use Rattle.trees.proofs.Pairs.{smallest-pair, pair-carets, only-pair, empty-pair, carets-limit}
@@ -19,9 +28,10 @@ use Rattle.trees.proofs.SubtreeEnds.{subtree-end}
 use Rattle.lengths.specs.Kinds.{Kind, IsKind, kinds}
 use Rattle.lengths.specs.Weights.{weights}
 use Rattle.lengths.proofs.CaretKinds.{kind-at, one-kind, first-kind}
+use Rattle.lengths.proofs.ConstantTable.{table-symmetric}
 use Rattle.lengths.proofs.Weights.{weight-symmetric}
 use Rattle.claims.specs.Trees.{LeavesAndCarets, PairOfForm, NoRedundantCaret, PairIsMap, ShapesOfTrees}
-use Rattle.claims.specs.Trees.{KindsOfCarets, SymmetricWeights, LengthIsSum}
+use Rattle.claims.specs.Trees.{EveryPairIsForm, KindsOfCarets, SymmetricWeights, LengthIsSum}
 
 pub leaves-and-carets : LeavesAndCarets
 leaves-and-carets = record {
@@ -38,6 +48,31 @@ pair-of-form = record {
   of-empty = empty-pair;
   most = λ f h k. carets-limit limit f (rw (sym (add-one limit)) h) k;
 }
+
+-- The entries of a tree with n carets are those of a side of the form that is made of them.
+entries-side : (n : ℕ) (b a : ℕ → ℕ) (x : Side) (t : Tree) → carets t ≡ n
+    → ((i : ℕ) → onSide x (b i) (a i) ≡ getD (exponentsOf t) i 0)
+    → SameEntries (exponentsOf t) (exponents x (formUpTo (suc n) b a))
+entries-side n b a x t size h i = go (decLt i (suc n)) ∙ sym (exponents-at x (formUpTo (suc n) b a) i)
+  where
+    go : Dec (i < suc n) → getD (exponentsOf t) i 0 ≡ exponent x (formUpTo (suc n) b a) i
+    go (yes p) = sym (upTo-below (suc n) b a x i p ∙ h i)
+    go (no p) =
+        List·getD-eq-default (exponentsOf t) 0 (omega (arith, exponents-length t))
+        ∙ sym (upTo-behind (suc n) b a x i (omega arith))
+
+pub every-pair-is-form : EveryPairIsForm
+every-pair-is-form t s same =
+    let b : ℕ → ℕ = λ i. getD (exponentsOf s) i 0 in
+    let a : ℕ → ℕ = λ i. getD (exponentsOf t) i 0 in
+    let f = formUpTo (suc (carets t)) b a in (
+      f,
+      record {
+        same-size = same;
+        a-exponents = side-exponents aSide f t (entries-side (carets t) b a aSide t refl (λ i. refl));
+        b-exponents = side-exponents bSide f s (entries-side (carets t) b a bSide s (sym same) (λ i. refl));
+      },
+    )
 
 pub no-redundant-caret : NoRedundantCaret
 no-redundant-caret = Redundant.no-redundant
@@ -56,7 +91,7 @@ pub kinds-of-carets : KindsOfCarets
 kinds-of-carets = record { one = one-kind; first = first-kind }
 
 pub symmetric-weights : SymmetricWeights
-symmetric-weights = record { of-first = refl; symmetric = weight-symmetric }
+symmetric-weights = record { of-first = refl; symmetric = weight-symmetric; constant = table-symmetric }
 
 pub length-is-sum : LengthIsSum
 length-is-sum t s xs ys hx hy =

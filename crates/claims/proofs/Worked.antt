@@ -1,11 +1,13 @@
 -- The rows of specs/Worked.antt, by computation; a record of a word is read as the word's form. That the unreduced form
 -- has the map of b is one free reduction of its letters. Assumes nothing.
 use mathlib.Core.Path.{_≡_, refl, sym, ap, _∙_, subst}
-use mathlib.Core.List.{[], _∷_}
+use mathlib.Core.List.{[], _∷_, _++_}
 use Prim.Native.Nat.{ℕ, zero, suc, _<_, _≤_}
 use native.Mathlib.Omega.{arith}
 use lib.ListN.{length}
+use Rattle.lines.specs.Lines.{linesFrom}
 use Rattle.group.specs.Letters.{'b, Word}
+use Rattle.group.specs.Bytes.{readWord}
 use Rattle.group.specs.Maps.{SameMap}
 use Rattle.group.specs.Forms.{Side, bSide, aSide, Form, exponent, letters}
 use Rattle.group.specs.Limits.{limit}
@@ -26,7 +28,10 @@ use Rattle.lengths.specs.Weights.{formLength}
 use Rattle.spelling.specs.Spelling.{spelling}
 use Rattle.spelling.specs.Contracts.{wordIn}
 use Rattle.words.specs.Recording.{recordOfWord}
-use Rattle.claims.specs.Worked.{unreduced, unreducedRecord, deadEnd, deadEndRecord, Measures, IsSpelled, Worked}
+use Rattle.receipts.specs.Text.{ascii, decimalWithin}
+use Rattle.receipts.specs.Receipts.{outputOf}
+use Rattle.claims.specs.Worked.{unreduced, unreducedRecord, deadEnd, deadEndRecord, Measures, IsSpelled}
+use Rattle.claims.specs.Worked.{Worked, WorkedForms}
 use Rattle.claims.proofs.WordCalls.{read-record}
 
 -- The clause is broken at index 0.
@@ -86,43 +91,62 @@ spelled-dead-end = record {
   spelled = ap (λ (o : Outcome Form). then o (λ f. wordIn 13 (spelling f))) read-dead-end;
 }
 
+-- The receipts of the three lines.
+printed : outputOf (ascii "abA\naA\naxb\n") ≡ ascii "line letters carets length record\n"
+    ++ ascii "1 3 3 3 010008000000010001000102000400000001\n"
+    ++ ascii "2 2 0 0 010000020000\n"
+    ++ ascii "3 refused 2 1\n"
+unfolding decimalWithin linesFrom readWord
+printed = refl
+
 pub worked : Worked
-worked =
-    record {
-      record-empty = refl;
-      record-aBbA = refl;
-      record-aBAbabAABa = refl;
-      record-b = refl;
-      pair-b = measured (word "b") 3 1 (omega arith) refl refl;
-      record-Aba = refl;
-      pair-Aba = measured (word "Aba") 4 3 (omega arith) refl refl;
-      record-BAbab = refl;
-      record-AAbaa = refl;
-      record-ba = refl;
-      record-ab = refl;
-      refused-unreduced = record-unreduced;
-      map-unreduced = subst (λ (f : Form). SameMap (letters f) ('b ∷ [])) (sym record-unreduced-form) unreduced-map;
-      read-dead-end = read-dead-end;
-      pair-dead-end = measured (word "aabAAAAAbaaaB") 8 11 (omega arith) refl refl;
-      spelled-dead-end = spelled-dead-end;
-      form-empty = refl;
-      form-aBbA = refl;
-      form-aBAbabAABa = refl;
-      form-b = refl;
-      form-Aba = refl;
-      form-BAbab = refl;
-      form-AAbaa = refl;
-      form-ba = refl;
-      form-ab = refl;
-      form-unreduced = record-unreduced-form;
-      unreduced-place = applies-0;
-      not-reduced = λ r. reduced-no-step unreduced r 0 applies-0;
-      dead-end-reduced = form-reduced (word "aabAAAAAbaaaB");
-      dead-end-word = refl;
-      dead-end-record = refl;
-      dead-end-spelling = refl;
-      dead-end-minus = refl;
-      dead-end-plus = refl;
-      relator1-printed = refl;
-      relator2-printed = refl;
-    }
+worked = record {
+  record-empty = refl;
+  record-aBbA = refl;
+  record-aBAbabAABa = refl;
+  record-b = refl;
+  pair-b = measured (word "b") 3 1 (omega arith) refl refl;
+  record-Aba = refl;
+  pair-Aba = measured (word "Aba") 4 3 (omega arith) refl refl;
+  record-BAbab = refl;
+  record-AAbaa = refl;
+  record-ba = refl;
+  record-ab = refl;
+  refused-unreduced = record-unreduced;
+  map-unreduced = subst (λ (f : Form). SameMap (letters f) ('b ∷ [])) (sym record-unreduced-form) unreduced-map;
+  read-dead-end = read-dead-end;
+  pair-dead-end = measured (word "aabAAAAAbaaaB") 8 11 (omega arith) refl refl;
+  spelled-dead-end = spelled-dead-end;
+  limit-printed = refl;
+  relator1-printed = refl;
+  relator2-printed = refl;
+  weights-R0 = refl;
+  weights-RN = refl;
+  weights-RI = refl;
+  weights-LL = refl;
+  weights-I0 = refl;
+  weights-IR = refl;
+  receipt-printed = printed;
+}
+
+pub worked-forms : WorkedForms
+worked-forms = record {
+  form-empty = refl;
+  form-aBbA = refl;
+  form-aBAbabAABa = refl;
+  form-b = refl;
+  form-Aba = refl;
+  form-BAbab = refl;
+  form-AAbaa = refl;
+  form-ba = refl;
+  form-ab = refl;
+  form-unreduced = record-unreduced-form;
+  unreduced-place = applies-0;
+  not-reduced = λ r. reduced-no-step unreduced r 0 applies-0;
+  dead-end-reduced = form-reduced (word "aabAAAAAbaaaB");
+  dead-end-word = refl;
+  dead-end-record = refl;
+  dead-end-spelling = refl;
+  dead-end-minus = refl;
+  dead-end-plus = refl;
+}

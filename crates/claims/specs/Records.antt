@@ -8,6 +8,7 @@
 use mathlib.Core.Path.{_≡_}
 use mathlib.Core.List.{List}
 use mathlib.Core.Logic.{_↔_}
+use Prim.Native.Nat.{ℕ}
 use Rattle.group.specs.Forms.{Form}
 use Rattle.refusals.specs.Outcomes.{accepted}
 use Rattle.records.specs.Format.{IsRecord}

@@ -1,7 +1,9 @@
 -- The lines of 01, 'Worked at the desk', that are marked P, as the rows of one claim, over the definitions that the
--- calls' contracts cite. A comment gives the line of each row. Pairs (i, e) are an index and its exponent, as in 01: a
+-- calls' contracts cite, with what 01 prints elsewhere. A comment gives the line of each row. Pairs (i, e) are an index and its exponent, as in 01: a
 -- record is written by its two sides, or byte by byte where 01 prints its bytes; a form by its levels,
 -- `level b_0 a_0 (level b_1 a_1 …)`. N and the length of a word are those of its record.
+--     Worked        01's lines marked P, the limit, the printed table of weights, the relators, and a whole receipt
+--     WorkedForms   the same lines of forms, and 000's Table 4
 --     HasForm t f, HasRecord t s   the text t is a word, with the form f, with the record s
 --     Measures s n l               the record s is read, N is n and the length is l
 --     IsSpelled s t                the record s is read, and spelled as the text t
@@ -19,16 +21,19 @@ use Rattle.group.specs.Forms.{Form, empty, level, letters}
 use Rattle.group.specs.Reducing.{Reduced, Applies}
 use Rattle.group.specs.Products.{formOf}
 use Rattle.group.specs.Texts.{wordOf}
+use Rattle.group.specs.Limits.{limit}
 use Rattle.refusals.specs.Outcomes.{accepted, refused, valued}
 use Rattle.records.specs.Format.{Power, power, entries, field, bTag, aTag, encode}
 use Rattle.records.specs.Reading.{decode}
 use Rattle.records.specs.Faults.{formRead}
 use Rattle.trees.specs.Pairs.{caretsOf, minusTree, plusTree}
-use Rattle.lengths.specs.Kinds.{L0, LL, RI, RN, R0, I0, kinds}
-use Rattle.lengths.specs.Weights.{formLength}
+use Rattle.lengths.specs.Kinds.{Kind, L0, LL, RI, RN, R0, I0, IR, kinds}
+use Rattle.lengths.specs.Weights.{weight, formLength}
 use Rattle.spelling.specs.Spelling.{spelling}
 use Rattle.spelling.specs.Contracts.{spelledIn}
 use Rattle.words.specs.Recording.{recordOfWord}
+use Rattle.receipts.specs.Text.{ascii}
+use Rattle.receipts.specs.Receipts.{outputOf}
 
 -- The text is a word, and f is the form of that word.
 abbrev pub HasForm : String → Form → Type 0
@@ -84,6 +89,10 @@ x2 = level 0 0 x1
 abbrev pub x3 : Form
 x3 = level 0 0 x2
 
+-- The row of a kind in the table of weights, in 01's order.
+abbrev pub weightRow : Kind → List ℕ
+weightRow x = weight x R0 ∷ weight x RN ∷ weight x RI ∷ weight x LL ∷ weight x I0 ∷ weight x IR ∷ []
+
 -- The rows.
 pub record Worked : Type 0 where
   -- P empty word: 010000020000. P `aBbA`, P `aBAbabAABa`: the same.
@@ -109,7 +118,26 @@ pub record Worked : Type 0 where
   pub read-dead-end : decode deadEndRecord ≡ accepted deadEnd
   pub pair-dead-end : Measures deadEndRecord 8 11
   pub spelled-dead-end : IsSpelled deadEndRecord "aabAAAAAbaaaB"
-  -- The same of forms: of the words,
+  -- 01, 'Letters and maps': a word has at most 4,096 letters; the relators.
+  pub limit-printed : limit ≡ 4096
+  pub relator1-printed : wordOf "aBAbabAABa" ≡ some relator1
+  pub relator2-printed : wordOf "aBAAbaabAAABaa" ≡ some relator2
+  -- 01, 'The tree pair and the length': the table of weights, its columns R0, RN, RI, LL, I0, IR.
+  pub weights-R0 : weightRow R0 ≡ 0 ∷ 2 ∷ 2 ∷ 1 ∷ 1 ∷ 3 ∷ []
+  pub weights-RN : weightRow RN ≡ 2 ∷ 2 ∷ 2 ∷ 1 ∷ 1 ∷ 3 ∷ []
+  pub weights-RI : weightRow RI ≡ 2 ∷ 2 ∷ 2 ∷ 1 ∷ 3 ∷ 3 ∷ []
+  pub weights-LL : weightRow LL ≡ 1 ∷ 1 ∷ 1 ∷ 2 ∷ 2 ∷ 2 ∷ []
+  pub weights-I0 : weightRow I0 ≡ 1 ∷ 1 ∷ 3 ∷ 2 ∷ 2 ∷ 4 ∷ []
+  pub weights-IR : weightRow IR ≡ 3 ∷ 3 ∷ 3 ∷ 2 ∷ 4 ∷ 4 ∷ []
+  -- 01, 'The receipt program': what is written for the lines `abA`, `aA`, `axb`, byte for byte.
+  pub receipt-printed : outputOf (ascii "abA\naA\naxb\n") ≡ ascii "line letters carets length record\n"
+      ++ ascii "1 3 3 3 010008000000010001000102000400000001\n"
+      ++ ascii "2 2 0 0 010000020000\n"
+      ++ ascii "3 refused 2 1\n"
+
+-- The same of forms.
+pub record WorkedForms : Type 0 where
+  -- Of the words.
   pub form-empty : HasForm "" empty
   pub form-aBbA : HasForm "aBbA" empty
   pub form-aBAbabAABa : HasForm "aBAbabAABa" empty
@@ -119,17 +147,14 @@ pub record Worked : Type 0 where
   pub form-AAbaa : HasForm "AAbaa" x3
   pub form-ba : HasForm "ba" (level 1 0 (level 0 0 (level 1 0 empty)))
   pub form-ab : HasForm "ab" (level 1 0 (level 1 0 empty))
-  -- of the record that is not reduced: the clause is broken at index 0,
+  -- Of the record that is not reduced: the clause is broken at index 0.
   pub form-unreduced : formRead unreducedRecord ≡ unreduced
   pub unreduced-place : Applies 0 unreduced
   pub not-reduced : Reduced unreduced → ⊥
-  -- and of the dead end: it is reduced, the form of its spelling, and its carets are of the kinds of 000, Table 4.
+  -- Of the dead end: it is reduced, the form of its spelling, and its carets are of the kinds of 000, Table 4.
   pub dead-end-reduced : Reduced deadEnd
   pub dead-end-word : HasForm "aabAAAAAbaaaB" deadEnd
   pub dead-end-record : encode deadEnd ≡ deadEndRecord
   pub dead-end-spelling : wordOf "aabAAAAAbaaaB" ≡ some (spelling deadEnd)
   pub dead-end-minus : kinds (minusTree deadEnd) ≡ L0 ∷ LL ∷ LL ∷ I0 ∷ R0 ∷ R0 ∷ R0 ∷ R0 ∷ []
   pub dead-end-plus : kinds (plusTree deadEnd) ≡ L0 ∷ I0 ∷ LL ∷ LL ∷ RN ∷ RI ∷ I0 ∷ R0 ∷ []
-  -- The relators are the strings of 01, 'Letters and maps'.
-  pub relator1-printed : wordOf "aBAbabAABa" ≡ some relator1
-  pub relator2-printed : wordOf "aBAAbaabAAABaa" ≡ some relator2

@@ -15,7 +15,6 @@ use Rattle.group.proofs.Congruence.{≈-sym, _≈_, _⟫_, ≈-path, ≈-front,
 use Rattle.group.proofs.Inverses.{eight-pairs, cancel-behind}
 use Rattle.group.proofs.Theorems.{forms↔joined}
 use Rattle.lengths.specs.Weights.{formLength}
-use Rattle.geodesics.specs.Geodesics.{LengthIsReached, NoShorterWord}
 use Rattle.geodesics.proofs.WordLengths.{behind-by-one, behind-lowers, zero-length}
 
 -- Letters put behind a word, as many as its length, that lead to the identity.
@@ -60,7 +59,7 @@ behind-inverse w v h =
     ⟫ ≈-back h (inverse v))
 
 -- A word with as many letters as the length.
-pub shortest-word : LengthIsReached
+pub shortest-word : (w : Word) → (u : Word) × Joined u w × (length u ≡ formLength (formOf w))
 shortest-word w = go (lowered (formLength (formOf w)) w refl)
   where
     go : Down w (formLength (formOf w)) → (u : Word) × Joined u w × (length u ≡ formLength (formOf w))
@@ -83,6 +82,6 @@ behind-most (x ∷ v) w = go (behind-by-one w x) (behind-most v (w ++ (x ∷ [])
     go (inr h) k = omega (arith, ap (λ (u : Word). formLength (formOf u)) (append-assoc w (x ∷ []) v))
 
 -- No word of the element has fewer.
-pub shortest-least : NoShorterWord
+pub shortest-least : (u w : Word) → Joined u w → formLength (formOf w) ≤ length u
 shortest-least u w j =
     omega (arith, behind-most u [], ap formLength (forms↔joined u w .1 j))

@@ -2,11 +2,12 @@
 -- has length 0 (000, lemma 3.1, properties 1 to 4). Assumes nothing.
 use mathlib.Core.Path.{_≡_, refl, sym, _∙_, ap, _≡⟨_⟩_, _∎}
 use mathlib.Core.List.{[], _∷_, _++_}
-use mathlib.Core.Logic.{_⊎_, inl, inr}
+use mathlib.Core.Logic.{_⊎_, inl, inr, _↔_}
 use Prim.Native.Nat.{ℕ, zero, suc}
 use native.Mathlib.Omega.{arith}
 use Rattle.lists.specs.Entries.{total}
 use Rattle.group.specs.Letters.{Letter, Word}
+use Rattle.group.specs.Chains.{Joined}
 use Rattle.group.specs.Forms.{Side, bSide, aSide, Form, empty, level, exponent, exponents, SameExponents, Trimmed}
 use Rattle.group.specs.Products.{formOf, behindLetter}
 use Rattle.group.proofs.Exponents.{trimmed-equal}
@@ -14,7 +15,6 @@ use Rattle.group.proofs.Reduced.{form-canonical, form-trimmed}
 use Rattle.group.proofs.Exchange.{form-behind}
 use Rattle.group.proofs.Theorems.{forms↔joined}
 use Rattle.lengths.specs.Weights.{formLength}
-use Rattle.geodesics.specs.Geodesics.{LetterChangesByOne, SomeLetterLowers, ZeroIsIdentity}
 use Rattle.geodesics.proofs.Columns.{ByOne, up, down}
 use Rattle.geodesics.proofs.Sides.{putLetter, sidesLength}
 use Rattle.geodesics.proofs.SideLengths.{put-changes, put-lowers, length-closed, from-total}
@@ -37,7 +37,9 @@ letter-length w x =
     formLength (formOf (w ++ (x ∷ []))) ∎
 
 -- A letter behind.
-pub behind-by-one : LetterChangesByOne
+pub behind-by-one : (w : Word) (x : Letter)
+    → (formLength (formOf (w ++ (x ∷ []))) ≡ suc (formLength (formOf w)))
+    ⊎ (formLength (formOf w) ≡ suc (formLength (formOf (w ++ (x ∷ [])))))
 behind-by-one w x = go (put-changes (sidesOf (formOf w)) x)
   where
     go : ByOne (sidesLength (putLetter (sidesOf (formOf w)) x)) (sidesLength (sidesOf (formOf w)))
@@ -57,7 +59,9 @@ behind-by-one w x = go (put-changes (sidesOf (formOf w)) x)
         suc (formLength (formOf (w ++ (x ∷ [])))) ∎)
 
 -- A letter that lowers the length.
-pub behind-lowers : SomeLetterLowers
+pub behind-lowers : (w : Word)
+    → (formLength (formOf w) ≡ 0)
+    ⊎ ((x : Letter) × (formLength (formOf w) ≡ suc (formLength (formOf (w ++ (x ∷ []))))))
 behind-lowers w = go (put-lowers (sidesOf (formOf w)))
   where
     go : (sidesLength (sidesOf (formOf w)) ≡ 0)
@@ -100,7 +104,7 @@ zero-empty f t h = trimmed-equal f empty t tt same
         (omega (arith, none, from-total size (exponents aSide f) (length-closed (sidesOf f) .a-row)))
 
 -- Length 0.
-pub zero-length : ZeroIsIdentity
+pub zero-length : (w : Word) → (formLength (formOf w) ≡ 0) ↔ Joined w []
 zero-length w = (
   (λ h. forms↔joined w [] .0 (zero-empty (formOf w) (form-trimmed w) h)),
   λ j. ap formLength (forms↔joined w [] .1 j),

@@ -1,6 +1,5 @@
 -- The steps of the reader of shapes and of the sum of weights, for the functions inside this crate.
 --     classByte      a class as it is kept in a table        kindNamed   the kind that a case of `CaretKind` names
---     table          Fordham's table as the code has it
 --     Readable       what is left of a shape, and room for the classes of the carets to come
 --     lengthWithin   the length of a pair that has room in arrays of some size
 -- Assumes nothing.
@@ -8,7 +7,7 @@ use mathlib.Core.Path.{_≡_}
 use mathlib.Core.Bool.{cond}
 use mathlib.Core.List.{List, [], _∷_}
 use Prim.Native.Nat.{ℕ, zero, suc, _+_, _≤_, _<_}
-use lib.ListN.{length, take, drop, getD}
+use lib.ListN.{length, take, drop}
 use lib.Dec.{ltb}
 use Rattle.lists.specs.Writes.{Writing}
 use Rattle.refusals.specs.Outcomes.{Outcome, accepted, refused, then}
@@ -64,20 +63,6 @@ indexOf Named.RI = 2
 indexOf Named.LL = 3
 indexOf Named.I0 = 4
 indexOf Named.IR = 5
-
--- The constant table of the code, and its entry in a row and a column.
-abbrev pub table : List (List ℕ)
-table =
-    (0 ∷ 2 ∷ 2 ∷ 1 ∷ 1 ∷ 3 ∷ [])
-    ∷ (2 ∷ 2 ∷ 2 ∷ 1 ∷ 1 ∷ 3 ∷ [])
-    ∷ (2 ∷ 2 ∷ 2 ∷ 1 ∷ 3 ∷ 3 ∷ [])
-    ∷ (1 ∷ 1 ∷ 1 ∷ 2 ∷ 2 ∷ 2 ∷ [])
-    ∷ (1 ∷ 1 ∷ 3 ∷ 2 ∷ 2 ∷ 4 ∷ [])
-    ∷ (3 ∷ 3 ∷ 3 ∷ 2 ∷ 4 ∷ 4 ∷ [])
-    ∷ []
-
-abbrev pub entry : (row column : ℕ) → ℕ
-entry i j = getD (getD table i []) j 0
 
 -- What is behind the caret before one of a class.
 abbrev pub seen : Class → Behind → Behind

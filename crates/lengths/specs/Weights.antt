@@ -1,9 +1,11 @@
 -- The weights of pairs of carets and the length (01, 'The tree pair and the length'; 000, section 3.1).
 --     weight x y   the weight of a caret of kind x of T− with one of kind y of T+
+--     table        the same table as the constant of the code has it; entry i j, its entries by row and column
 --     pairLength   the length of a pair of trees          formLength   the length of a form
 -- Assumes nothing.
 use mathlib.Core.List.{List, [], _∷_}
 use Prim.Native.Nat.{ℕ, _+_}
+use lib.ListN.{getD}
 use Rattle.group.specs.Forms.{Form}
 use Rattle.trees.specs.Trees.{Tree}
 use Rattle.trees.specs.Pairs.{minusTree, plusTree}
@@ -28,6 +30,20 @@ weight RI = inRow 2 2 2 1 3 3
 weight LL = inRow 1 1 1 2 2 2
 weight I0 = inRow 1 1 3 2 2 4
 weight IR = inRow 3 3 3 2 4 4
+
+-- The constant table of the code, and its entry in a row and a column.
+abbrev pub table : List (List ℕ)
+table =
+    (0 ∷ 2 ∷ 2 ∷ 1 ∷ 1 ∷ 3 ∷ [])
+    ∷ (2 ∷ 2 ∷ 2 ∷ 1 ∷ 1 ∷ 3 ∷ [])
+    ∷ (2 ∷ 2 ∷ 2 ∷ 1 ∷ 3 ∷ 3 ∷ [])
+    ∷ (1 ∷ 1 ∷ 1 ∷ 2 ∷ 2 ∷ 2 ∷ [])
+    ∷ (1 ∷ 1 ∷ 3 ∷ 2 ∷ 2 ∷ 4 ∷ [])
+    ∷ (3 ∷ 3 ∷ 3 ∷ 2 ∷ 4 ∷ 4 ∷ [])
+    ∷ []
+
+abbrev pub entry : (row column : ℕ) → ℕ
+entry i j = getD (getD table i []) j 0
 
 -- The sum of the weights of caret k with caret k, over k.
 abbrev pub weights : List Kind → List Kind → ℕ

@@ -1,0 +1,72 @@
+-- The claims of specs/Lengths.antt, proved. Assumes nothing.
+use mathlib.Core.Path.{_≡_, refl, sym, ap, _∙_}
+use mathlib.Core.List.{List}
+use Prim.Native.Nat.{ℕ, _≤_}
+use native.Mathlib.Omega.{arith}
+use lib.ListN.{length}
+use Rattle.group.specs.Letters.{Word}
+use Rattle.group.specs.Chains.{Joined}
+use Rattle.group.specs.Forms.{Form, letters}
+use Rattle.group.specs.Products.{formOf}
+use Rattle.group.proofs.Congruence.{joined-sym}
+use Rattle.group.proofs.Theorems.{the-form-joined, forms↔joined, joined↔maps}
+use Rattle.refusals.proofs.Outcomes.{accepted-same, valued-accepted}
+use Rattle.records.specs.Format.{IsRecord}
+use Rattle.records.specs.Reading.{decode}
+use Rattle.records.proofs.Accepted.{record-decoded}
+use Rattle.lengths.specs.Weights.{formLength}
+use Rattle.geodesics.proofs.LabelSums.{form-labels}
+use Rattle.geodesics.proofs.CaretBound.{form-carets}
+use Rattle.geodesics.proofs.WordLengths.{behind-by-one, behind-lowers, zero-length}
+use Rattle.geodesics.proofs.ShortestWords.{shortest-word, shortest-least}
+use Rattle.claims.specs.Calls.{LengthCall}
+use Rattle.claims.specs.Lengths.{LengthIsLeast, LetterChangesByOne, SomeLetterLowers, ZeroIsIdentity}
+use Rattle.claims.specs.Lengths.{LengthIsReached, NoShorterWord, FewCarets, LabelsGiveLength}
+use Rattle.claims.proofs.WordCalls.{call-keeps-map}
+
+pub letter-changes-by-one : LetterChangesByOne
+letter-changes-by-one = behind-by-one
+
+pub some-letter-lowers : SomeLetterLowers
+some-letter-lowers = behind-lowers
+
+pub zero-is-identity : ZeroIsIdentity
+zero-is-identity = zero-length
+
+pub length-is-reached : LengthIsReached
+length-is-reached = shortest-word
+
+pub no-shorter-word : NoShorterWord
+no-shorter-word = shortest-least
+
+pub few-carets : FewCarets
+few-carets w = form-carets (formOf w)
+
+pub labels-give-length : LabelsGiveLength
+labels-give-length = form-labels
+
+-- The answer of a call on the record of a form is the length of the word that the form writes out.
+answer-length : (s : List ℕ) (c : LengthCall s) (f : Form) → IsRecord s f
+    → c .count ≡ formLength (formOf (letters f))
+answer-length s c f h =
+    let x = valued-accepted formLength (decode s) (c .count) (sym (c .contract .result) ∙ c .taken) in
+    let same : x .0 ≡ f = accepted-same (sym (x .1) ∙ record-decoded s f h) in
+    let own : f ≡ formOf (letters f) =
+    the-form-joined (letters f) f (h .reduced) (h .trimmed) (forms↔joined (letters f) (letters f) .0 refl) in
+    sym (x .2) ∙ ap formLength (same ∙ own)
+
+least : (s : List ℕ) (c : LengthCall s) (f : Form) → IsRecord s f → (w : Word) → Joined w (letters f)
+    → c .count ≤ length w
+least s c f h w j = omega (arith, answer-length s c f h, shortest-least w (letters f) j)
+
+pub length-is-least : LengthIsLeast
+length-is-least = record {
+  reached = λ s c f h.
+      let u = shortest-word (letters f) in (u .0, u .1, u .2 ∙ sym (answer-length s c f h));
+  least = least;
+  least-of-map = λ s c f h w m. least s c f h w (joined↔maps w (letters f) .1 m);
+  of-word = λ w g c.
+      let kept = call-keeps-map {w = w} (g .contract) (g .taken) refl in
+      least _ c (kept .form) (kept .is-record) w
+      (joined-sym (joined↔maps (letters (kept .form)) w .1 (kept .same-map)));
+}
