@@ -26,8 +26,8 @@ use Rattle.claims.specs.Demands.{Demand1, Demand2, Demand3}
 use Rattle.claims.proofs.Answers.{is-refused, refuses-when}
 use Rattle.claims.proofs.Records.{records-are-accepted}
 use Rattle.claims.proofs.Refusals.{judged↔refusal, no-refusal↔none, judged-accepted, decoded↔refusal}
-use Rattle.claims.proofs.WordCalls.{left-refused, records↔joined, call-of, call-keeps-map, call-front}
-use Rattle.claims.proofs.WordCalls.{recorded-form}
+use Rattle.claims.proofs.WordCalls.{left-refused, judged-within, records↔joined, call-of}
+use Rattle.claims.proofs.WordCalls.{call-keeps-map, call-front, recorded-form}
 use Rattle.claims.proofs.TwoWordCalls.{two-refused, own-calls, two-decided}
 use Rattle.claims.proofs.PairCalls.{pair-refused, pair-gives, length-gives}
 use Rattle.claims.proofs.SpellingCalls.{spelling-refused, spelled-as, word-of-record}
@@ -60,7 +60,9 @@ equal↔joined : (w x : Word) (f : WordCall w) (g : WordCall x) → (recordBy f 
 equal↔joined w x f g =
     let one = call-front {w = w} (f .contract) (f .taken) refl in
     let two = call-front {w = x} (g .contract) (g .taken) refl in
-    let joins = records↔joined (bytesOf w) (bytesOf x) (f .lent) (g .lent) w x (one .judged-so) (two .judged-so) in (
+    let few = judged-within (bytesOf w) (f .lent) w (one .judged-so) in
+    let few′ = judged-within (bytesOf x) (g .lent) x (two .judged-so) in
+    let joins = records↔joined w x few few′ in (
       (λ e. joins .0 (sym (one .front) ∙ e ∙ two .front)),
       (λ j. one .front ∙ joins .1 j ∙ sym (two .front)),
     )

@@ -170,7 +170,7 @@ spelled-as {s} {w} {w′} {r} {n} h a = go (find s (length w))
     )
 
 -- The bytes written are those of the spelling.
-front-spelled : {s w w′ : List ℕ} {n : ℕ} {f : Form} → SpelledAs s w w′ n f → take n w′ ≡ bytesOf (spelling f)
+pub front-spelled : {s w w′ : List ℕ} {n : ℕ} {f : Form} → SpelledAs s w w′ n f → take n w′ ≡ bytesOf (spelling f)
 front-spelled {s} {w} {w′} {n} {f} c =
     ap (take n) (c .holds)
     ∙ sets-front (bytesOf (spelling f)) w n (bytes-length (spelling f) ∙ c .number) (omega (arith, c .number, c .room))

@@ -20,7 +20,7 @@ use Rattle.words.proofs.Compared.{same-bytes, bytes-same}
 use Rattle.claims.specs.Refusals.{WordRefusal}
 use Rattle.claims.specs.Answers.{None, WordRefused, Answered, RefusesWords}
 use Rattle.claims.proofs.Refusals.{judged↔refusal, accepted-none, none-accepted}
-use Rattle.claims.proofs.WordCalls.{left-refused, records↔joined}
+use Rattle.claims.proofs.WordCalls.{left-refused, judged-within, records↔joined}
 
 -- Decisions that differ.
 other-word : {i q n p : ℕ} → refusedWord 1 i q ≡ refusedWord 0 n p → ⊥
@@ -137,7 +137,7 @@ module _ (u v : List ℕ) (m m′ k k′ : Memory) (c : Comparison) (h : Compare
   pub two-decided : (w x : Word) → judgedWith u m ≡ accepted w → judgedWith v k ≡ accepted x
       → ((decisionOf c ≡ same) ↔ Joined w x) × ((decisionOf c ≡ different) ↔ (Joined w x → ⊥))
   two-decided w x e f =
-      let joins = records↔joined u v m k w x e f in
+      let joins = records↔joined w x (judged-within u m w e) (judged-within v k x f) in
       decides (sameBytes (recordOfWord w) (recordOfWord x)) (h .result ∙ ap₂ decided e f) (
         (λ t. joins .0 (same-bytes (recordOfWord w) (recordOfWord x) t)),
         (λ j. ap (λ (l : List ℕ). sameBytes (recordOfWord w) l) (sym (joins .1 j)) ∙ bytes-same (recordOfWord w)),

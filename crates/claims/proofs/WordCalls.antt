@@ -57,19 +57,19 @@ form-within w short = record {
     low s i some (no h) = absurd (omega (arith, form-index w s i (omega (arith, h)), some))
 
 -- A word that was judged good has at most as many letters as the limit.
-judged-within : (u : List ℕ) (m : Memory) (w : Word) → judgedWith u m ≡ accepted w → length w ≤ limit
+pub judged-within : (u : List ℕ) (m : Memory) (w : Word) → judgedWith u m ≡ accepted w → length w ≤ limit
 judged-within u m w e =
     let fit = accepted-record u (length (m .b)) (length (m .a)) (length (m .buffer)) w e in
     omega (arith, fit .fit .short, read-length u w (fit .fit .reads))
 
--- Two accepted words have one record just when a chain joins them.
-pub records↔joined : (u v : List ℕ) (m k : Memory) (w x : Word) → judgedWith u m ≡ accepted w
-    → judgedWith v k ≡ accepted x → (recordOfWord w ≡ recordOfWord x) ↔ Joined w x
-records↔joined u v m k w x e f = (
+-- Two words within the limit have one record just when a chain joins them.
+pub records↔joined : (w x : Word) → length w ≤ limit → length x ≤ limit
+    → (recordOfWord w ≡ recordOfWord x) ↔ Joined w x
+records↔joined w x few few′ = (
   (λ same.
       forms↔joined w x .0
-      (encode-injective (formOf w) (formOf x) (form-trimmed w) (form-within w (judged-within u m w e))
-      (form-trimmed x) (form-within x (judged-within v k x f)) same)),
+      (encode-injective (formOf w) (formOf x) (form-trimmed w) (form-within w few)
+      (form-trimmed x) (form-within x few′) same)),
   (λ j. ap encode (forms↔joined w x .1 j)),
 )
 

@@ -3,8 +3,10 @@
 --     PairOfRecord s p q p′ q′ n    record to tree pair: the record s, N = n, both buffers at entry and at exit
 --     LengthOfRecord s n            record to length: the record s, its length n
 --     WordOfRecord s t t′ o         record to word: the record s, the buffer at entry and at exit, the outcome o
+--     VerdictOfWords u m m′ v k k′ d   two words: the bytes and the memory of each, the decision d
 -- Names used, and where each is defined:
 --     IsRecord s f                  s is the record of the form f                               records, Format
+--     Joined w x                    a chain joins w to x                                        group, Chains
 --     SameMap u v                   u and v move every dyadic point from 0 to 1 alike           group, Maps
 --     letters f                     f written out in letters                                    group, Forms
 --     exponent s f i                b_i (the Side s is bSide) or a_i (s is aSide)               group, Forms
@@ -26,6 +28,7 @@ use lib.ListN.{length, take, drop, getD}
 use Rattle.lists.specs.Entries.{At}
 use Rattle.group.specs.Letters.{Word}
 use Rattle.group.specs.Bytes.{bytesOf}
+use Rattle.group.specs.Chains.{Joined}
 use Rattle.group.specs.Maps.{SameMap}
 use Rattle.group.specs.Forms.{bSide, aSide, Form, exponent, letters}
 use Rattle.group.specs.Limits.{limit}
@@ -38,6 +41,7 @@ use Rattle.lengths.specs.Kinds.{Kind, IsKind}
 use Rattle.lengths.specs.Weights.{weights}
 use Rattle.spelling.specs.Spelling.{Spells}
 use Rattle.words.specs.Recording.{Memory}
+use Rattle.words.specs.Comparing.{Decision, same, different}
 
 -- Word to record: the n bytes at the front of the buffer are the record of a reduced form with the word's map, and the
 -- tables hold that form's exponents; everything beyond is unchanged.
@@ -98,3 +102,14 @@ pub record WordOfRecord (s t t′ : List ℕ) (o : Outcome ℕ) : Type 0 where
   pub spells : (x : Word) → Spells form x ↔ (x ≡ word)
   pub same-map : SameMap word (letters form)
   pub answer : SpelledInto word t t′ o
+
+-- Two words, where the call answers: the memory of each is left as that word's own call leaves it, and the decision is
+-- same just when a chain joins them, else different.
+pub record VerdictOfWords (u : List ℕ) (m m′ : Memory) (v : List ℕ) (k k′ : Memory) (d : Decision) : Type 0 where
+  pub first : Word
+  pub second : Word
+  pub bytes : (u ≡ bytesOf first) × (v ≡ bytesOf second)
+  pub first-left : (n : ℕ) × RecordOfWord m m′ n first
+  pub second-left : (n : ℕ) × RecordOfWord k k′ n second
+  pub same-just-when : (d ≡ same) ↔ Joined first second
+  pub different-just-when : (d ≡ different) ↔ (Joined first second → ⊥)

@@ -1,0 +1,180 @@
+-- The demands of the functions: the relations of the calls, and the claims on them. An export's numbers say what an
+-- answer of its call says, so that its demands are those of the call. Assumes nothing.
+use mathlib.Core.Path.{_≡_, sym, _∙_, subst}
+use mathlib.Core.List.{List}
+use Prim.Native.Nat.{ℕ, _≤_}
+use denote.Ref.{now}
+use lib.ListN.{length, take}
+use Rattle.group.specs.Letters.{Word}
+use Rattle.group.specs.Bytes.{bytesOf}
+use Rattle.group.specs.Limits.{limit}
+use Rattle.refusals.specs.Outcomes.{Outcome, accepted, verdictOf, writtenOf}
+use Rattle.refusals.specs.declared.Verdict.{Verdict}
+use Rattle.refusals.specs.declared.Written.{Written}
+use Rattle.records.specs.Contracts.{Checked}
+use Rattle.words.specs.Recording.{Memory, memory, recordOfWord, Recorded}
+use Rattle.words.specs.Comparing.{Decision, decisionOf, Compared}
+use Rattle.words.specs.declared.Comparison.{Comparison}
+use Rattle.pairs.specs.Contracts.{treePairOf, wordLengthOf, Paired, Measured}
+use Rattle.pairs.specs.declared.TreePair.{TreePair}
+use Rattle.pairs.specs.declared.WordLength.{WordLength}
+use Rattle.spelling.specs.Contracts.{Spelled}
+use Rattle.spelling.specs.Spelling.{spelling}
+use Rattle.claims.specs.Answers.{Answered}
+use Rattle.claims.specs.Given.{VerdictOfWords}
+use Rattle.claims.proofs.Demands.{demand1, demand2}
+use Rattle.claims.proofs.Exports.{exports-answer-as-calls}
+use Rattle.claims.proofs.Refusals.{no-refusal↔none, judged-accepted}
+use Rattle.claims.proofs.WordCalls.{call-keeps-map, call-front, judged-within, records↔joined}
+use Rattle.claims.proofs.TwoWordCalls.{two-decided, own-calls}
+use Rattle.claims.proofs.SpellingCalls.{spelled-as, front-spelled, spelling-again}
+use Rattle.calls.specs.Demanded.{WordToRecord, CheckRecord, RecordToTreePair, RecordToLength, RecordToWord}
+use Rattle.calls.specs.Demanded.{TwoWords, Demanded, DemandedOfExports, OneRecord}
+use Rattle.calls.proofs.Always.{always-below}
+use Rattle.calls.proofs.Calls.{calls, exports}
+
+-- Demands 1 and 2 of a call that ends with its contract.
+word-to-record : {u : List ℕ} {m m′ : Memory} {r : Written} → Recorded u m m′ r → WordToRecord u m m′ (writtenOf r)
+word-to-record {u} {m} {m′} {r} h =
+    let first = demand1 .word-to-record u m m′ r h in
+    record {
+      refuses = first .0;
+      unaltered = first .1;
+      gives = λ n e. let w = demand2 .is-word u m m′ r n h e in (w .0, w .1, call-keeps-map h e (w .1));
+    }
+
+check-record : {s : List ℕ} {r : Verdict} → Checked s r → CheckRecord s (verdictOf r)
+check-record {s} {r} h =
+    record { refuses = demand1 .check-record s r h; accepts = demand1 .accepted-record s r h }
+
+record-to-tree-pair : {s p q p′ q′ : List ℕ} {r : TreePair} → Paired s p q p′ q′ r
+    → RecordToTreePair s p q p′ q′ (treePairOf r)
+record-to-tree-pair {s} {p} {q} {p′} {q′} {r} h =
+    let first = demand1 .record-to-tree-pair s p q p′ q′ r h in
+    record {
+      refuses = first .0;
+      unaltered = first .1;
+      gives = λ n e. demand2 .gives-pair s (record {
+        lent-minus = p;
+        lent-plus = q;
+        left-minus = p′;
+        left-plus = q′;
+        answer = r;
+        count = n;
+        contract = h;
+        taken = e;
+      });
+    }
+
+record-to-length : {s : List ℕ} {r : WordLength} → Measured s r → RecordToLength s (wordLengthOf r)
+record-to-length {s} {r} h = record {
+  refuses = demand1 .record-to-length s r h;
+  gives = λ n e. demand2 .gives-length s (record { answer = r; count = n; contract = h; taken = e });
+}
+
+record-to-word : {s t t′ : List ℕ} {r : Written} → Spelled s t t′ r → RecordToWord s t t′ (writtenOf r)
+record-to-word {s} {t} {t′} {r} h =
+    let first = demand1 .record-to-word s t t′ r h in
+    record { refuses = first .0; unaltered = first .1; gives = demand2 .gives-word s t t′ r h }
+
+-- Where the two-word call answers, each memory is left as by the word's own call, which accepts.
+verdict : {u v : List ℕ} {m m′ k k′ : Memory} {r : Comparison} → Compared u m m′ v k k′ r → Answered (decisionOf r)
+    → VerdictOfWords u m m′ v k k′ (decisionOf r)
+verdict {u} {v} {m} {m′} {k} {k′} {r} h a =
+    let none = demand1 .same-element u v m m′ k k′ r h .0 .answered-just-when .0 a in
+    let own = own-calls u v m m′ k k′ r h a in
+    let one = demand1 .word-to-record u m m′ (own .0 .0) (own .0 .1) .0 .accepted-just-when .1 (none .0) in
+    let two = demand1 .word-to-record v k k′ (own .1 .0) (own .1 .1) .0 .accepted-just-when .1 (none .1) in
+    let w = demand2 .is-word u m m′ (own .0 .0) (one .0) (own .0 .1) (one .1) in
+    let x = demand2 .is-word v k k′ (own .1 .0) (two .0) (own .1 .1) (two .1) in
+    let decides =
+    two-decided u v m m′ k k′ r h (w .0) (x .0)
+    (judged-accepted u m (w .0) (no-refusal↔none u m .1 (none .0)) (w .1))
+    (judged-accepted v k (x .0) (no-refusal↔none v k .1 (none .1)) (x .1)) in
+    record {
+      first = w .0;
+      second = x .0;
+      bytes = (w .1, x .1);
+      first-left = (one .0, call-keeps-map (own .0 .1) (one .1) (w .1));
+      second-left = (two .0, call-keeps-map (own .1 .1) (two .1) (x .1));
+      same-just-when = decides .0;
+      different-just-when = decides .1;
+    }
+
+same-element : {u v : List ℕ} {m m′ k k′ : Memory} {r : Comparison} → Compared u m m′ v k k′ r
+    → TwoWords u m m′ v k k′ (decisionOf r)
+same-element {u} {v} {m} {m′} {k} {k′} {r} h =
+    let first = demand1 .same-element u v m m′ k k′ r h in
+    record { refuses = first .0; unaltered = first .1; gives = verdict h }
+
+pub demanded : Demanded
+demanded = record {
+  word-to-record = always-below (calls .word-to-record) (λ κs u u′ b b′ a a′ s s′ r. word-to-record);
+  check-record = always-below (calls .check-record) (λ κs s s′ r. check-record);
+  record-to-tree-pair = always-below (calls .record-to-tree-pair) (λ κs s s′ p p′ q q′ r. record-to-tree-pair);
+  record-to-length = always-below (calls .record-to-length) (λ κs s s′ r. record-to-length);
+  record-to-word = always-below (calls .record-to-word) (λ κs s s′ t t′ r. record-to-word);
+  same-element =
+      always-below (calls .same-element) (λ κs u u′ b b′ a a′ s s′ v v′ d d′ c c′ t t′ r. same-element);
+}
+
+-- What holds of what a call answers holds of what is read in the numbers of its export.
+pub demanded-of-exports : DemandedOfExports
+demanded-of-exports = record {
+  word-to-record = always-below (exports .word-to-record) (λ κs u u′ b b′ a a′ s s′ r h.
+      let m = memory (now b) (now a) (now s) in
+      let m′ = memory (now b′) (now a′) (now s′) in
+      let x = exports-answer-as-calls .word-to-record (now u) m m′ r h in
+      subst (λ (o : Outcome ℕ). WordToRecord (now u) m m′ o) (sym (x .2)) (word-to-record (x .1)));
+  check-record = always-below (exports .check-record) (λ κs s s′ r h.
+      let x = exports-answer-as-calls .check-record (now s) r h in
+      subst (λ (o : Outcome ℕ). CheckRecord (now s) o) (sym (x .2)) (check-record (x .1)));
+  record-to-tree-pair = always-below (exports .record-to-tree-pair) (λ κs s s′ p p′ q q′ r h.
+      let x = exports-answer-as-calls .record-to-tree-pair (now s) (now p) (now q) (now p′) (now q′) r h in
+      subst (λ (o : Outcome ℕ). RecordToTreePair (now s) (now p) (now q) (now p′) (now q′) o) (sym (x .2))
+      (record-to-tree-pair (x .1)));
+  record-to-length = always-below (exports .record-to-length) (λ κs s s′ r h.
+      let x = exports-answer-as-calls .record-to-length (now s) r h in
+      subst (λ (o : Outcome ℕ). RecordToLength (now s) o) (sym (x .2)) (record-to-length (x .1)));
+  record-to-word = always-below (exports .record-to-word) (λ κs s s′ t t′ r h.
+      let x = exports-answer-as-calls .record-to-word (now s) (now t) (now t′) r h in
+      subst (λ (o : Outcome ℕ). RecordToWord (now s) (now t) (now t′) o) (sym (x .2)) (record-to-word (x .1)));
+  same-element = always-below (exports .same-element) (λ κs u u′ b b′ a a′ s s′ v v′ d d′ c c′ t t′ r h.
+      let m = memory (now b) (now a) (now s) in
+      let m′ = memory (now b′) (now a′) (now s′) in
+      let k = memory (now d) (now c) (now t) in
+      let k′ = memory (now d′) (now c′) (now t′) in
+      let x = exports-answer-as-calls .same-element (now u) (now v) m m′ k k′ r h in
+      subst (λ (d : Decision). TwoWords (now u) m m′ (now v) k k′ d) (sym (x .2)) (same-element (x .1)));
+}
+
+-- The record of a word is what an accepted call on it writes.
+writes-record : {u : List ℕ} {m m′ : Memory} {r : Written} (w : Word) (n : ℕ) → Recorded u m m′ r
+    → u ≡ bytesOf w → writtenOf r ≡ accepted n → (length w ≤ limit) × (take n (m′ .buffer) ≡ recordOfWord w)
+writes-record {u} {m} w n h b e =
+    let call = call-front {w = w} h e b in
+    (judged-within u m w (call .judged-so), call .front)
+
+-- The word that is written for a record has that record.
+spells-record : {s t t′ : List ℕ} {r : Written} (n : ℕ) → Spelled s t t′ r → writtenOf r ≡ accepted n
+    → (x : Word) × (take n t′ ≡ bytesOf x) × (length x ≤ limit) × (recordOfWord x ≡ s)
+spells-record n h e =
+    let f = spelled-as h e in
+    let front = front-spelled (f .1) in
+    (spelling (f .0), front, f .1 .low, spelling-again (spelling (f .0)) (h .are-bytes) (f .1) front)
+
+pub one-record : OneRecord
+one-record = record {
+  recordOf = recordOfWord;
+  equal-just-when-joined = records↔joined;
+  written = always-below (calls .word-to-record) (λ κs u u′ b b′ a a′ s s′ r h w n. writes-record w n h);
+  exported = always-below (exports .word-to-record) (λ κs u u′ b b′ a a′ s s′ r h w n is e.
+      let m = memory (now b) (now a) (now s) in
+      let m′ = memory (now b′) (now a′) (now s′) in
+      let x = exports-answer-as-calls .word-to-record (now u) m m′ r h in
+      writes-record w n (x .1) is (sym (x .2) ∙ e));
+  spelled = always-below (calls .record-to-word) (λ κs s s′ t t′ r h n. spells-record n h);
+  spelled-exported = always-below (exports .record-to-word) (λ κs s s′ t t′ r h n e.
+      let x = exports-answer-as-calls .record-to-word (now s) (now t) (now t′) r h in
+      spells-record n (x .1) (sym (x .2) ∙ e));
+}

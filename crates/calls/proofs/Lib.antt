@@ -1,0 +1,4 @@
+-- The proofs: the functions' own theorems, and how a claim on a relation becomes one on a function.
+pub mod Always
+pub mod Calls
+pub mod Demanded

@@ -1,0 +1,73 @@
+-- The contracts that the claims speak of are those of the functions: every call of a function, on any arguments, ends
+-- with its relation. A field names the function's own code, `routine`, and the relation, so that with another contract,
+-- or with a demand on its caller, the function has no proof here. `now x` is what stands behind the reference x: of a
+-- slice its elements. proofs/Calls.antt has the proofs, which are the functions' theorems.
+--     Calls     the calls of document 01 and of the receipt program
+--     Exports   the calls for C and Rust
+-- Assumes nothing.
+use denote.Ref.{now}
+use Rattle.refusals.specs.Outcomes.{verdictOf, writtenOf}
+use Rattle.records.specs.Contracts.{Checked}
+use Rattle.words.specs.Recording.{memory, Recorded}
+use Rattle.words.specs.Comparing.{Compared, decisionOf}
+use Rattle.pairs.specs.Contracts.{Paired, Measured, treePairOf, wordLengthOf}
+use Rattle.spelling.specs.Contracts.{Spelled}
+use Rattle.receipts.specs.Contracts.{Begun, ServedPart, Finished}
+use Rattle.thompson.specs.Codes.{codeOf, codeOfDecision, Passed}
+use Rattle.calls.specs.Always.{Always}
+use Rattle.words.proofs.word_to_record as word-to-record
+use Rattle.words.proofs.same_element as same-element
+use Rattle.records.proofs.check_record as check-record
+use Rattle.pairs.proofs.record_to_tree_pair as record-to-tree-pair
+use Rattle.pairs.proofs.record_to_length as record-to-length
+use Rattle.spelling.proofs.record_to_word as record-to-word
+use Rattle.receipts.proofs.begin as begin
+use Rattle.receipts.proofs.serve as serve
+use Rattle.receipts.proofs.finish as finish
+use Rattle.thompson.proofs.thompson_word_to_record as thompson-word-to-record
+use Rattle.thompson.proofs.thompson_same_element as thompson-same-element
+use Rattle.thompson.proofs.thompson_check_record as thompson-check-record
+use Rattle.thompson.proofs.thompson_record_to_tree_pair as thompson-record-to-tree-pair
+use Rattle.thompson.proofs.thompson_record_to_length as thompson-record-to-length
+use Rattle.thompson.proofs.thompson_record_to_word as thompson-record-to-word
+
+-- The calls of the papers and of the receipt program.
+pub record Calls : Type 2 where
+  pub word-to-record : Always word-to-record.ended word-to-record.Symbol.routine
+      (λ κs u u′ b b′ a a′ s s′ r. Recorded (now u) (memory (now b) (now a) (now s))
+      (memory (now b′) (now a′) (now s′)) r)
+  pub check-record : Always check-record.ended check-record.Symbol.routine (λ κs s s′ r. Checked (now s) r)
+  pub record-to-tree-pair : Always record-to-tree-pair.ended record-to-tree-pair.Symbol.routine
+      (λ κs s s′ p p′ q q′ r. Paired (now s) (now p) (now q) (now p′) (now q′) r)
+  pub record-to-length : Always record-to-length.ended record-to-length.Symbol.routine
+      (λ κs s s′ r. Measured (now s) r)
+  pub record-to-word : Always record-to-word.ended record-to-word.Symbol.routine
+      (λ κs s s′ t t′ r. Spelled (now s) (now t) (now t′) r)
+  pub same-element : Always same-element.ended same-element.Symbol.routine
+      (λ κs u u′ b b′ a a′ s s′ v v′ d d′ c c′ t t′ r. Compared
+      (now u) (memory (now b) (now a) (now s)) (memory (now b′) (now a′) (now s′))
+      (now v) (memory (now d) (now c) (now t)) (memory (now d′) (now c′) (now t′)) r)
+  pub begin : Always begin.ended begin.Symbol.routine (λ κs out out′ r. Begun (now out) (now out′) r)
+  pub serve : Always serve.ended serve.Symbol.routine
+      (λ κs part part′ k k′ held held′ line line′ out out′ r. ServedPart (now part) k held (now line) (now out)
+      (now line′) (now out′) r)
+  pub finish : Always finish.ended finish.Symbol.routine
+      (λ κs k k′ held held′ line line′ out out′ r. Finished k held (now line) (now out) (now out′) r)
+
+-- The exports: the numbers of an answer that meets the contract of the call.
+pub record Exports : Type 2 where
+  pub word-to-record : Always thompson-word-to-record.ended thompson-word-to-record.Symbol.routine
+      (λ κs u u′ b b′ a a′ s s′ r. Passed (λ x. codeOf (writtenOf x))
+      (Recorded (now u) (memory (now b) (now a) (now s)) (memory (now b′) (now a′) (now s′))) r)
+  pub check-record : Always thompson-check-record.ended thompson-check-record.Symbol.routine
+      (λ κs s s′ r. Passed (λ x. codeOf (verdictOf x)) (Checked (now s)) r)
+  pub record-to-tree-pair : Always thompson-record-to-tree-pair.ended thompson-record-to-tree-pair.Symbol.routine
+      (λ κs s s′ p p′ q q′ r. Passed (λ x. codeOf (treePairOf x)) (Paired (now s) (now p) (now q) (now p′) (now q′)) r)
+  pub record-to-length : Always thompson-record-to-length.ended thompson-record-to-length.Symbol.routine
+      (λ κs s s′ r. Passed (λ x. codeOf (wordLengthOf x)) (Measured (now s)) r)
+  pub record-to-word : Always thompson-record-to-word.ended thompson-record-to-word.Symbol.routine
+      (λ κs s s′ t t′ r. Passed (λ x. codeOf (writtenOf x)) (Spelled (now s) (now t) (now t′)) r)
+  pub same-element : Always thompson-same-element.ended thompson-same-element.Symbol.routine
+      (λ κs u u′ b b′ a a′ s s′ v v′ d d′ c c′ t t′ r. Passed (λ x. codeOfDecision (decisionOf x)) (Compared
+      (now u) (memory (now b) (now a) (now s)) (memory (now b′) (now a′) (now s′))
+      (now v) (memory (now d) (now c) (now t)) (memory (now d′) (now c′) (now t′))) r)

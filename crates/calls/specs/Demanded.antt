@@ -1,0 +1,141 @@
+-- The three demands of document 01, said of the functions themselves and of the exports for C and Rust: of what is lent
+-- to a call, of what it leaves, and of its answer. No contract stands in it. Read this file first; docs/DECISIONS.md
+-- quotes the demands as they were set. proofs/Demanded.antt has the proofs.
+--     Always T f R      every call of the function f, on any arguments, returns, with R of its arguments as they were
+--                       and as they are at exit, and of its answer; nothing is asked of the caller
+-- Letters: u, v bytes lent as a word; w, x words; s bytes lent as a record; m, k memory lent with a word (b table, a
+-- table, record buffer); p, q buffers for shapes; t a buffer for letters; o an outcome; a ′ marks the same at exit.
+-- The names used, what each is, and the crate and file of its specs that define it:
+--     now x                       the elements of the slice behind the reference x                the kit, Denote/Ref
+--     writtenOf, verdictOf        an answer as accepted n, or as refused with number and place    refusals, Outcomes
+--     treePairOf, wordLengthOf    the same                                                        pairs, Contracts
+--     decisionOf                  an answer as same, different, or a refusal of word 0 or 1       words, Comparing
+--     outcomeOf, decisionIn       the same of the two numbers that an export answers              thompson, Codes
+--     Refuses o R                 each refusal is o just when its condition R holds               claims, Answers
+--     RefusesWords d R S          the same of two words, the first word's refusals first          claims, Answers
+--     IsRefused, WordRefused, IsAccepted, Answered, None R    a refusal; a value; no condition    claims, Answers
+--     WordRefusal, RecordRefusal, PairRefusal, SpellingRefusal    the conditions, one by one      claims, Refusals
+--     RecordOfWord, PairOfRecord, LengthOfRecord, WordOfRecord, VerdictOfWords    what is given   claims, Given
+--     IsRecord s f                s is the record of the form f                                   records, Format
+--     Word, bytesOf w             a string of letters; its bytes, one a letter                    group, Letters, Bytes
+--     Joined w x                  a chain of steps, each with one of eight strings, joins w to x  group, Chains
+--     limit                       4,096                                                           group, Limits
+-- Assumes nothing.
+use mathlib.Core.Path.{_≡_}
+use mathlib.Core.List.{List}
+use mathlib.Core.Logic.{_↔_}
+use Prim.Native.Nat.{ℕ, _≤_}
+use denote.Ref.{now}
+use lib.ListN.{length, take}
+use Rattle.group.specs.Letters.{Word}
+use Rattle.group.specs.Bytes.{bytesOf}
+use Rattle.group.specs.Chains.{Joined}
+use Rattle.group.specs.Forms.{Form}
+use Rattle.group.specs.Limits.{limit}
+use Rattle.refusals.specs.Outcomes.{Outcome, accepted, verdictOf, writtenOf}
+use Rattle.records.specs.Format.{IsRecord}
+use Rattle.words.specs.Recording.{Memory, memory}
+use Rattle.words.specs.Comparing.{Decision, decisionOf}
+use Rattle.pairs.specs.Contracts.{treePairOf, wordLengthOf}
+use Rattle.thompson.specs.Codes.{outcomeOf, decisionIn}
+use Rattle.claims.specs.Answers.{Refuses, IsRefused, IsAccepted, RefusesWords, WordRefused, Answered, None}
+use Rattle.claims.specs.Refusals.{WordRefusal, RecordRefusal, PairRefusal, SpellingRefusal}
+use Rattle.claims.specs.Given.{RecordOfWord, PairOfRecord, LengthOfRecord, WordOfRecord, VerdictOfWords}
+use Rattle.calls.specs.Always.{Always}
+use Rattle.words.proofs.word_to_record as word-to-record
+use Rattle.words.proofs.same_element as same-element
+use Rattle.records.proofs.check_record as check-record
+use Rattle.pairs.proofs.record_to_tree_pair as record-to-tree-pair
+use Rattle.pairs.proofs.record_to_length as record-to-length
+use Rattle.spelling.proofs.record_to_word as record-to-word
+use Rattle.thompson.proofs.thompson_word_to_record as thompson-word-to-record
+use Rattle.thompson.proofs.thompson_same_element as thompson-same-element
+use Rattle.thompson.proofs.thompson_check_record as thompson-check-record
+use Rattle.thompson.proofs.thompson_record_to_tree_pair as thompson-record-to-tree-pair
+use Rattle.thompson.proofs.thompson_record_to_length as thompson-record-to-length
+use Rattle.thompson.proofs.thompson_record_to_word as thompson-record-to-word
+
+-- What demands 1 (`refuses`, `unaltered`) and 2 (`gives`) say of one call.
+pub record WordToRecord (u : List ℕ) (m m′ : Memory) (o : Outcome ℕ) : Type 0 where
+  pub refuses : Refuses o (WordRefusal u m)
+  pub unaltered : IsRefused o → m′ ≡ m
+  pub gives : (n : ℕ) → o ≡ accepted n → (w : Word) × (u ≡ bytesOf w) × RecordOfWord m m′ n w
+
+pub record CheckRecord (s : List ℕ) (o : Outcome ℕ) : Type 0 where
+  pub refuses : Refuses o (RecordRefusal s)
+  pub accepts : IsAccepted o ↔ ((f : Form) × IsRecord s f)
+
+pub record RecordToTreePair (s p q p′ q′ : List ℕ) (o : Outcome ℕ) : Type 0 where
+  pub refuses : Refuses o (PairRefusal s (length p) (length q))
+  pub unaltered : IsRefused o → (p′ ≡ p) × (q′ ≡ q)
+  pub gives : (n : ℕ) → o ≡ accepted n → PairOfRecord s p q p′ q′ n
+
+pub record RecordToLength (s : List ℕ) (o : Outcome ℕ) : Type 0 where
+  pub refuses : Refuses o (RecordRefusal s)
+  pub gives : (n : ℕ) → o ≡ accepted n → LengthOfRecord s n
+
+pub record RecordToWord (s t t′ : List ℕ) (o : Outcome ℕ) : Type 0 where
+  pub refuses : Refuses o (SpellingRefusal s (length t))
+  pub unaltered : IsRefused o → t′ ≡ t
+  pub gives : None (RecordRefusal s) → WordOfRecord s t t′ o
+
+pub record TwoWords (u : List ℕ) (m m′ : Memory) (v : List ℕ) (k k′ : Memory) (d : Decision) : Type 0 where
+  pub refuses : RefusesWords d (WordRefusal u m) (WordRefusal v k)
+  pub unaltered : WordRefused d → (m′ ≡ m) × (k′ ≡ k)
+  pub gives : Answered d → VerdictOfWords u m m′ v k k′ d
+
+-- Demands 1 and 2 of the six functions.
+pub record Demanded : Type 2 where
+  pub word-to-record : Always word-to-record.ended word-to-record.Symbol.routine
+      (λ κs u u′ b b′ a a′ s s′ r. WordToRecord (now u) (memory (now b) (now a) (now s))
+      (memory (now b′) (now a′) (now s′)) (writtenOf r))
+  pub check-record : Always check-record.ended check-record.Symbol.routine
+      (λ κs s s′ r. CheckRecord (now s) (verdictOf r))
+  pub record-to-tree-pair : Always record-to-tree-pair.ended record-to-tree-pair.Symbol.routine
+      (λ κs s s′ p p′ q q′ r. RecordToTreePair (now s) (now p) (now q) (now p′) (now q′) (treePairOf r))
+  pub record-to-length : Always record-to-length.ended record-to-length.Symbol.routine
+      (λ κs s s′ r. RecordToLength (now s) (wordLengthOf r))
+  pub record-to-word : Always record-to-word.ended record-to-word.Symbol.routine
+      (λ κs s s′ t t′ r. RecordToWord (now s) (now t) (now t′) (writtenOf r))
+  pub same-element : Always same-element.ended same-element.Symbol.routine
+      (λ κs u u′ b b′ a a′ s s′ v v′ d d′ c c′ t t′ r. TwoWords
+      (now u) (memory (now b) (now a) (now s)) (memory (now b′) (now a′) (now s′))
+      (now v) (memory (now d) (now c) (now t)) (memory (now d′) (now c′) (now t′)) (decisionOf r))
+
+-- The same of the exports.
+pub record DemandedOfExports : Type 2 where
+  pub word-to-record : Always thompson-word-to-record.ended thompson-word-to-record.Symbol.routine
+      (λ κs u u′ b b′ a a′ s s′ r. WordToRecord (now u) (memory (now b) (now a) (now s))
+      (memory (now b′) (now a′) (now s′)) (outcomeOf r))
+  pub check-record : Always thompson-check-record.ended thompson-check-record.Symbol.routine
+      (λ κs s s′ r. CheckRecord (now s) (outcomeOf r))
+  pub record-to-tree-pair : Always thompson-record-to-tree-pair.ended thompson-record-to-tree-pair.Symbol.routine
+      (λ κs s s′ p p′ q q′ r. RecordToTreePair (now s) (now p) (now q) (now p′) (now q′) (outcomeOf r))
+  pub record-to-length : Always thompson-record-to-length.ended thompson-record-to-length.Symbol.routine
+      (λ κs s s′ r. RecordToLength (now s) (outcomeOf r))
+  pub record-to-word : Always thompson-record-to-word.ended thompson-record-to-word.Symbol.routine
+      (λ κs s s′ t t′ r. RecordToWord (now s) (now t) (now t′) (outcomeOf r))
+  pub same-element : Always thompson-same-element.ended thompson-same-element.Symbol.routine
+      (λ κs u u′ b b′ a a′ s s′ v v′ d d′ c c′ t t′ r. TwoWords
+      (now u) (memory (now b) (now a) (now s)) (memory (now b′) (now a′) (now s′))
+      (now v) (memory (now d) (now c) (now t)) (memory (now d′) (now c′) (now t′)) (decisionIn r))
+
+-- Demand 3: every word has one record, which each accepted call on it writes, whatever the lent memory held; and two
+-- words of at most as many letters as the limit have the same record just when a chain joins them. The word that is
+-- written for a record has that record.
+pub record OneRecord : Type 2 where
+  pub recordOf : Word → List ℕ
+  pub equal-just-when-joined : (w x : Word) → length w ≤ limit → length x ≤ limit
+      → (recordOf w ≡ recordOf x) ↔ Joined w x
+  pub written : Always word-to-record.ended word-to-record.Symbol.routine (λ κs u u′ b b′ a a′ s s′ r.
+      (w : Word) (n : ℕ) → now u ≡ bytesOf w → writtenOf r ≡ accepted n
+      → (length w ≤ limit) × (take n (now s′) ≡ recordOf w))
+  pub exported : Always thompson-word-to-record.ended thompson-word-to-record.Symbol.routine
+      (λ κs u u′ b b′ a a′ s s′ r. (w : Word) (n : ℕ) → now u ≡ bytesOf w → outcomeOf r ≡ accepted n
+      → (length w ≤ limit) × (take n (now s′) ≡ recordOf w))
+  pub spelled : Always record-to-word.ended record-to-word.Symbol.routine (λ κs s s′ t t′ r.
+      (n : ℕ) → writtenOf r ≡ accepted n
+      → (x : Word) × (take n (now t′) ≡ bytesOf x) × (length x ≤ limit) × (recordOf x ≡ now s))
+  pub spelled-exported : Always thompson-record-to-word.ended thompson-record-to-word.Symbol.routine
+      (λ κs s s′ t t′ r. (n : ℕ) → outcomeOf r ≡ accepted n
+      → (x : Word) × (take n (now t′) ≡ bytesOf x) × (length x ≤ limit) × (recordOf x ≡ now s))

@@ -1,0 +1,4 @@
+-- The demands said of the functions, and one theorem of all claims: start with Demanded.
+pub mod Always
+pub mod Demanded
+pub mod Calls
