@@ -2,3 +2,4 @@
 pub mod Always
 pub mod Demanded
 pub mod Calls
+pub mod Claims

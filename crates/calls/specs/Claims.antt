@@ -1,0 +1,92 @@
+-- One theorem of all claims: a field for each claim of the repository. proofs/Claims.antt proves it, so that no claim is
+-- listed here without its proof. A group gives the file of specs/ that says what its claims are; those of `calls` stand
+-- in this crate. A claim that is added anywhere gets its field here. Assumes nothing.
+use Rattle.calls.specs.Demanded.{Demanded, DemandedOfExports, OneRecord}
+use Rattle.calls.specs.Calls.{Calls, Exports}
+use Rattle.claims.specs.Demands.{Demand1, Demand2, Demand3}
+use Rattle.claims.specs.Exports.{ExportsAnswerAsCalls}
+use Rattle.claims.specs.Records.{RecordsOfForms, RecordHasOneForm, RecordsAreAccepted}
+use Rattle.claims.specs.Forms.{FormKeepsMap, EqualFormsAreJoined, EqualFormsAreOneMap, ReducedFormIsUnique}
+use Rattle.claims.specs.Forms.{TheFormOfWord, FormIsSmall}
+use Rattle.claims.specs.Sentences.{InverseUndoes, EndsFixed, ZerosIgnored, GeneratorsConjugate, PresentationsAgree}
+use Rattle.claims.specs.Sentences.{JoinedIsOneMap, StepKeepsElement, StepCanBeTaken, ReducedIsNoStep, StepsEnd}
+use Rattle.claims.specs.Sentences.{LettersAtEnds, BehindIsInFront, InverseExchanges}
+use Rattle.claims.specs.Trees.{LeavesAndCarets, PairOfForm, EveryPairIsForm, NoRedundantCaret, PairIsMap, ShapesOfTrees}
+use Rattle.claims.specs.Trees.{KindsOfCarets, SymmetricWeights, LengthIsSum}
+use Rattle.claims.specs.Lengths.{LengthIsLeast, LetterChangesByOne, SomeLetterLowers, ZeroIsIdentity, LengthIsReached}
+use Rattle.claims.specs.Lengths.{NoShorterWord, FewCarets, LabelsGiveLength}
+use Rattle.claims.specs.Spellings.{DeletingEnds, FormsAreSpelled, SpellingHasLength}
+use Rattle.claims.specs.Receipts.{LinesOfBytes, LinesInParts, ServesMetLines, CutKeepsReceipt, ReceiptsOfInput}
+use Rattle.claims.specs.Worked.{Worked, WorkedForms}
+
+pub record Claims : Type 2 where
+  -- The demands, said of the functions and of the exports: calls, Demanded.
+  pub demanded : Demanded
+  pub demanded-of-exports : DemandedOfExports
+  pub one-record : OneRecord
+  -- That the contracts of the claims are those of the functions: calls, Calls.
+  pub calls : Calls
+  pub exports : Exports
+  -- The demands over the contracts: claims, Demands.
+  pub demand1 : Demand1
+  pub demand2 : Demand2
+  pub demand3 : Demand3
+  -- The exports answer as the calls: claims, Exports.
+  pub exports-answer-as-calls : ExportsAnswerAsCalls
+  -- Records: claims, Records.
+  pub records-of-forms : RecordsOfForms
+  pub record-has-one-form : RecordHasOneForm
+  pub records-are-accepted : RecordsAreAccepted
+  -- Words and their forms: claims, Forms.
+  pub form-keeps-map : FormKeepsMap
+  pub equal-forms-are-joined : EqualFormsAreJoined
+  pub equal-forms-are-one-map : EqualFormsAreOneMap
+  pub reduced-form-is-unique : ReducedFormIsUnique
+  pub the-form-of-word : TheFormOfWord
+  pub form-is-small : FormIsSmall
+  -- Letters, maps, generators, reducing: claims, Sentences.
+  pub inverse-undoes : InverseUndoes
+  pub ends-fixed : EndsFixed
+  pub zeros-ignored : ZerosIgnored
+  pub generators-conjugate : GeneratorsConjugate
+  pub presentations-agree : PresentationsAgree
+  pub joined-is-one-map : JoinedIsOneMap
+  pub step-keeps-element : StepKeepsElement
+  pub step-can-be-taken : StepCanBeTaken
+  pub reduced-is-no-step : ReducedIsNoStep
+  pub steps-end : StepsEnd
+  pub letters-at-ends : LettersAtEnds
+  pub behind-is-in-front : BehindIsInFront
+  pub inverse-exchanges : InverseExchanges
+  -- Trees, shapes, carets and weights: claims, Trees.
+  pub leaves-and-carets : LeavesAndCarets
+  pub pair-of-form : PairOfForm
+  pub every-pair-is-form : EveryPairIsForm
+  pub no-redundant-caret : NoRedundantCaret
+  pub pair-is-map : PairIsMap
+  pub shapes-of-trees : ShapesOfTrees
+  pub kinds-of-carets : KindsOfCarets
+  pub symmetric-weights : SymmetricWeights
+  pub length-is-sum : LengthIsSum
+  -- The length is the least number of letters: claims, Lengths.
+  pub length-is-least : LengthIsLeast
+  pub letter-changes-by-one : LetterChangesByOne
+  pub some-letter-lowers : SomeLetterLowers
+  pub zero-is-identity : ZeroIsIdentity
+  pub length-is-reached : LengthIsReached
+  pub no-shorter-word : NoShorterWord
+  pub few-carets : FewCarets
+  pub labels-give-length : LabelsGiveLength
+  -- Spellings: claims, Spellings.
+  pub deleting-ends : DeletingEnds
+  pub forms-are-spelled : FormsAreSpelled
+  pub spelling-has-length : SpellingHasLength
+  -- Receipts: claims, Receipts.
+  pub lines-of-bytes : LinesOfBytes
+  pub lines-in-parts : LinesInParts
+  pub serves-met-lines : ServesMetLines
+  pub cut-keeps-receipt : CutKeepsReceipt
+  pub receipts-of-input : ReceiptsOfInput
+  -- Worked examples: claims, Worked.
+  pub worked : Worked
+  pub worked-forms : WorkedForms
