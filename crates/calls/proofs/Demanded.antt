@@ -11,7 +11,7 @@ use Rattle.group.specs.Limits.{limit}
 use Rattle.refusals.specs.Outcomes.{Outcome, accepted, verdictOf, writtenOf}
 use Rattle.refusals.specs.declared.Verdict.{Verdict}
 use Rattle.refusals.specs.declared.Written.{Written}
-use Rattle.records.specs.Contracts.{Checked}
+use Rattle.records.specs.Checking.{Checked}
 use Rattle.words.specs.Recording.{Memory, memory, recordOfWord, Recorded}
 use Rattle.words.specs.Comparing.{Decision, decisionOf, Compared}
 use Rattle.words.specs.declared.Comparison.{Comparison}

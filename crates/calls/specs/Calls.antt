@@ -7,7 +7,7 @@
 -- Assumes nothing.
 use denote.Ref.{now}
 use Rattle.refusals.specs.Outcomes.{verdictOf, writtenOf}
-use Rattle.records.specs.Contracts.{Checked}
+use Rattle.records.specs.Checking.{Checked}
 use Rattle.words.specs.Recording.{memory, Recorded}
 use Rattle.words.specs.Comparing.{Compared, decisionOf}
 use Rattle.pairs.specs.Contracts.{Paired, Measured, treePairOf, wordLengthOf}

@@ -13,7 +13,7 @@ use Rattle.refusals.specs.declared.Verdict.{Verdict}
 use Rattle.refusals.specs.declared.Written.{Written}
 use Rattle.records.specs.Format.{IsRecord}
 use Rattle.records.specs.Reading.{decode}
-use Rattle.records.specs.Contracts.{Checked}
+use Rattle.records.specs.Checking.{Checked}
 use Rattle.lengths.specs.Weights.{formLength}
 use Rattle.words.specs.Recording.{Memory, recordOfWord, judgedWith, Recorded}
 use Rattle.words.specs.Comparing.{decisionOf, same, different}

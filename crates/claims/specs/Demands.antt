@@ -9,7 +9,7 @@
 -- for shapes; t a buffer for letters; f, g a form or a call; a ′ marks the same memory at exit.
 -- Contracts, and the crate and file that define each:
 --     Recorded u m m′ r           word_to_record                                                  words, Recording
---     Checked s r                 check_record                                                    records, Contracts
+--     Checked s r                 check_record                                                    records, Checking
 --     Paired s p q p′ q′ r        record_to_tree_pair                                             pairs, Contracts
 --     Measured s r                record_to_length                                                pairs, Contracts
 --     Spelled s t t′ r            record_to_word                                                  spelling, Contracts
@@ -46,7 +46,7 @@ use Rattle.refusals.specs.Outcomes.{accepted, verdictOf, writtenOf}
 use Rattle.refusals.specs.declared.Verdict.{Verdict}
 use Rattle.refusals.specs.declared.Written.{Written}
 use Rattle.records.specs.Format.{IsRecord}
-use Rattle.records.specs.Contracts.{Checked}
+use Rattle.records.specs.Checking.{Checked}
 use Rattle.pairs.specs.Contracts.{Paired, Measured, treePairOf, wordLengthOf}
 use Rattle.pairs.specs.declared.TreePair.{TreePair}
 use Rattle.pairs.specs.declared.WordLength.{WordLength}

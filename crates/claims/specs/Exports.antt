@@ -11,7 +11,7 @@ use Prim.Native.Nat.{ℕ}
 use Rattle.refusals.specs.Outcomes.{verdictOf, writtenOf}
 use Rattle.refusals.specs.declared.Verdict.{Verdict}
 use Rattle.refusals.specs.declared.Written.{Written}
-use Rattle.records.specs.Contracts.{Checked}
+use Rattle.records.specs.Checking.{Checked}
 use Rattle.pairs.specs.Contracts.{Paired, Measured, treePairOf, wordLengthOf}
 use Rattle.pairs.specs.declared.TreePair.{TreePair}
 use Rattle.pairs.specs.declared.WordLength.{WordLength}

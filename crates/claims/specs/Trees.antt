@@ -8,7 +8,7 @@
 --     Redundant, SendsLeaves, InLeaf   000, definition 2.4; the map of a pair                   trees, Pairs
 --     shape t, Node t k u, subtreeEnd  bytes, nodes by number, where a subtree ends             trees, Shapes
 --     IsKind t k x, Kind         caret k is of kind x, by 01's sentences                        lengths, Kinds
---     weight x y; entry i j      Fordham's table; the constant of the code, by row and column   lengths, Weights
+--     weight x y; tableEntry i j   Fordham's table; the constant of the code, by row and column lengths, Weights
 -- Assumes nothing.
 use mathlib.Core.Path.{_≡_}
 use mathlib.Core.List.{List, _∷_, _++_}
@@ -26,7 +26,7 @@ use Rattle.trees.specs.Pairs.{caretsOf, minusTree, plusTree, Pair, SmallestPair
 use Rattle.trees.specs.Shapes.{shape, Node, subtreeEnd}
 use Rattle.trees.proofs.Carets.{rightEdges}
 use Rattle.lengths.specs.Kinds.{Kind, L0, IsKind}
-use Rattle.lengths.specs.Weights.{weight, entry, weights, pairLength}
+use Rattle.lengths.specs.Weights.{weight, tableEntry, weights, pairLength}
 
 -- A tree with N carets has leaves 0 to N; caret k is the one between leaves k and k + 1: below its left edge leaf k is
 -- the last, below its right edge leaf k + 1 is the first.
@@ -78,7 +78,7 @@ pub record KindsOfCarets : Type 0 where
 pub record SymmetricWeights : Type 0 where
   pub of-first : weight L0 L0 ≡ 0
   pub symmetric : (x y : Kind) → weight x y ≡ weight y x
-  pub constant : (i j : ℕ) → i < 6 → j < 6 → entry i j ≡ entry j i
+  pub constant : (i j : ℕ) → i < 6 → j < 6 → tableEntry i j ≡ tableEntry j i
 
 -- The length of a pair is the sum over k of the weight of caret k of T− with caret k of T+, for the lists of the
 -- carets' kinds, from left to right.

@@ -11,7 +11,7 @@ use Rattle.lists.proofs.Tests.{all, all-at}
 use Rattle.lengths.specs.declared.table.CaretKind.{CaretKind}
 use Rattle.lengths.specs.declared.table.CaretKind.the-variants as Named
 use Rattle.lengths.specs.Kinds.{Kind, L0, LL, RI, RN, R0, I0, IR}
-use Rattle.lengths.specs.Weights.{weight, entry}
+use Rattle.lengths.specs.Weights.{weight, tableEntry}
 use Rattle.lengths.specs.Steps.{kindNamed, indexOf}
 
 -- The kinds in the order of the table; each case of the enum has a row, which is that of its kind.
@@ -38,20 +38,20 @@ row-kind Named.IR = refl
 all-entries : (f : ℕ → ℕ → Bool) → T (all 6 (λ i. all 6 (f i))) → (i j : ℕ) → i < 6 → j < 6 → T (f i j)
 all-entries f h i j hi hj = all-at 6 (f i) (all-at 6 (λ i. all 6 (f i)) h i hi) j hj
 
--- Each entry is the weight of the two kinds.
-entry-weight : (i j : ℕ) → i < 6 → j < 6 → entry i j ≡ weight (rowKind i) (rowKind j)
+-- Each tableEntry is the weight of the two kinds.
+entry-weight : (i j : ℕ) → i < 6 → j < 6 → tableEntry i j ≡ weight (rowKind i) (rowKind j)
 entry-weight i j hi hj =
-    eqb→eq (entry i j) (weight (rowKind i) (rowKind j))
-    (all-entries (λ i j. eqb (entry i j) (weight (rowKind i) (rowKind j))) tt i j hi hj)
+    eqb→eq (tableEntry i j) (weight (rowKind i) (rowKind j))
+    (all-entries (λ i j. eqb (tableEntry i j) (weight (rowKind i) (rowKind j))) tt i j hi hj)
 
 pub table-weight : (x y : CaretKind) (i j : ℕ) → i ≡ indexOf x → j ≡ indexOf y
-    → entry i j ≡ weight (kindNamed x) (kindNamed y)
+    → tableEntry i j ≡ weight (kindNamed x) (kindNamed y)
 table-weight x y i j ei ej =
-    ap₂ entry ei ej
+    ap₂ tableEntry ei ej
     ∙ entry-weight (indexOf x) (indexOf y) (index-lt x) (index-lt y)
     ∙ ap₂ weight (row-kind x) (row-kind y)
 
 -- The table is symmetric.
-pub table-symmetric : (i j : ℕ) → i < 6 → j < 6 → entry i j ≡ entry j i
+pub table-symmetric : (i j : ℕ) → i < 6 → j < 6 → tableEntry i j ≡ tableEntry j i
 table-symmetric i j hi hj =
-    eqb→eq (entry i j) (entry j i) (all-entries (λ i j. eqb (entry i j) (entry j i)) tt i j hi hj)
+    eqb→eq (tableEntry i j) (tableEntry j i) (all-entries (λ i j. eqb (tableEntry i j) (tableEntry j i)) tt i j hi hj)

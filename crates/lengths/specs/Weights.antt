@@ -1,6 +1,6 @@
 -- The weights of pairs of carets and the length (01, 'The tree pair and the length'; 000, section 3.1).
 --     weight x y   the weight of a caret of kind x of T− with one of kind y of T+
---     table        the same table as the constant of the code has it; entry i j, its entries by row and column
+--     table        the same table as the constant of the code has it; tableEntry, its entries by row and column
 --     pairLength   the length of a pair of trees          formLength   the length of a form
 -- Assumes nothing.
 use mathlib.Core.List.{List, [], _∷_}
@@ -42,8 +42,8 @@ table =
     ∷ (3 ∷ 3 ∷ 3 ∷ 2 ∷ 4 ∷ 4 ∷ [])
     ∷ []
 
-abbrev pub entry : (row column : ℕ) → ℕ
-entry i j = getD (getD table i []) j 0
+abbrev pub tableEntry : (row column : ℕ) → ℕ
+tableEntry i j = getD (getD table i []) j 0
 
 -- The sum of the weights of caret k with caret k, over k.
 abbrev pub weights : List Kind → List Kind → ℕ

@@ -17,7 +17,8 @@ use Rattle.refusals.specs.declared.Refusal.{Refusal}
 use Rattle.refusals.specs.declared.Refusal.the-variants.{ShortTable}
 use Rattle.refusals.specs.Outcomes.{Outcome, accepted, refused, then, checked, verdictOf}
 use Rattle.records.specs.Reading.{bPowers, aPowers, exponentAt, decode}
-use Rattle.records.specs.Contracts.{Checked, decodedIn, tableRead, Decoded}
+use Rattle.records.specs.Checking.{Checked}
+use Rattle.records.specs.Contracts.{decodedIn, tableRead, Decoded}
 use Rattle.records.specs.Faults.{Bytes, formRead}
 use Rattle.records.specs.Steps.{frameOf, Ordered}
 use Rattle.records.specs.declared.reading.Frame.the-variants.{Exact, Broken}

@@ -35,11 +35,6 @@ pub record Encoded (b a buffer buffer′ : List ℕ) (r : Encoding) : Type 0 whe
   pub result : encodingOf r ≡ valued length (encoded b a (length buffer))
   pub bytes : buffer′ ≡ after (encoded b a (length buffer)) buffer (λ bytes. sets buffer 0 bytes)
 
--- The record check: accepted, with nothing to say, or refused as the record is. What is lent are bytes.
-pub record Checked (s : List ℕ) (r : Verdict) : Type 0 where
-  pub are-bytes : AreBytes s
-  pub result : verdictOf r ≡ checked (decode s)
-
 -- The form of a record, beside two tables of the lengths nb and na: 3, 4 and 5, then 6. Each table needs an entry for
 -- every index up to the limit.
 abbrev pub decodedIn : (s : List ℕ) (nb na : ℕ) → Outcome Form

@@ -5,4 +5,5 @@ pub mod Reading
 pub mod Faults
 pub mod Steps
 pub mod FieldReading
+pub mod Checking
 pub mod Contracts

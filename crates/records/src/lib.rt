@@ -1,5 +1,6 @@
 // Records: written from two tables of exponents, checked, and read into two tables.
-ghost use Rattle.records.specs.Contracts.{Checked, Decoded, Encoded};
+ghost use Rattle.records.specs.Checking.{Checked};
+ghost use Rattle.records.specs.Contracts.{Decoded, Encoded};
 use refusals::LIMIT;
 use refusals::Refusal;
 use refusals::Verdict;

@@ -2,7 +2,7 @@
 // or 0 and the call's value. In the two-word call 256 is added to the number where the second word is refused.
 ghost use mathlib.Core.Path.{_≡_};
 ghost use Rattle.refusals.specs.Outcomes.{verdictOf, writtenOf};
-ghost use Rattle.records.specs.Contracts.{Checked};
+ghost use Rattle.records.specs.Checking.{Checked};
 ghost use Rattle.words.specs.Recording.{memory, Recorded};
 ghost use Rattle.words.specs.Comparing.{decisionOf, Compared};
 ghost use Rattle.pairs.specs.Contracts.{treePairOf, wordLengthOf, Paired, Measured};
