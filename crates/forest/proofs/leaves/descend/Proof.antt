@@ -22,7 +22,9 @@ turn : (c : tie.In-loop Inv-loop μ-loop)
     → Turn (c .before .before .before .before .before .before .args .lefts .now) (c .before .loop .code)
     (c .before .loop .height)
 turn c =
-    walk-turn (c .before .loop .inv) (c .before .before .before .before .before .before .pre) (c .loop-test .taken)
+    let at-loop = c .before in
+    let at-start = at-loop .before .before .before .before .before in
+    walk-turn (at-loop .loop .inv) (at-start .pre) (c .loop-test .taken)
 
 below-stem-requires : tie.Need-below-stem-requires Inv-loop μ-loop
 below-stem-requires c κs = omega (arith, standing-below (c .before .before .before .pre))

@@ -18,24 +18,21 @@ add-t10 c = omega (arith, pending-bound (c .before .before .before .before .pre)
 returns : tie.Need-returns
 returns c = node-opens (c .before .before .before .before .pre) _ (c .if1 .taken) refl refl
 
--- The node is a leaf, where it is no caret.
-leaf : (c : tie.Else1)
-    → getD (c .before .before .before .before .args .shape .now) (c .before .before .before .before .args .at) 0 ≡ 0
-leaf c =
-    let at-start = c .before .before .before .before in
-    node-zero (at-start .pre .readable) (omega arith) (c .if1 .left)
+-- The start, seen from where the node is no caret: it is a leaf.
+abbrev start : tie.Else1 → tie.Start
+start c = c .before .before .before .before
+
+leaf : (c : tie.Else1) → getD (start c .args .shape .now) (start c .args .at) 0 ≡ 0
+leaf c = node-zero (start c .pre .readable) (omega arith) (c .if1 .left)
 
 -- Two subtrees at least are to come, where the leaf does not close the last.
-two : (c : tie.Else2) → 1 < c .before .before .before .before .before .args .pending
-two c =
-    let at-start = c .before .before .before .before .before in
-    two-pending (at-start .pre .some) (c .if2 .left)
+two : (c : tie.Else2) → 1 < start (c .before) .args .pending
+two c = two-pending (start (c .before) .pre .some) (c .if2 .left)
 
 returns-2 : tie.Need-returns-2
 returns-2 c =
     let at-if1 = c .before in
-    let at-start = at-if1 .before .before .before .before in
-    node-closes (at-start .pre) _ (leaf at-if1) (c .if2 .taken) refl refl
+    node-closes (start at-if1 .pre) _ (leaf at-if1) (c .if2 .taken) refl refl
 
 cast-k : tie.Need-cast-k
 cast-k c = search needs
@@ -43,14 +40,15 @@ cast-k c = search needs
 add-inside : tie.Need-add-inside
 add-inside c =
     let at-if2 = c .before in
-    let at-start = at-if2 .before .before .before .before .before in
-    omega (arith, next-there (at-start .pre) (leaf (at-if2 .before)) (two at-if2), at-start .good)
+    let at-if1 = at-if2 .before in
+    let at-start = start at-if1 in
+    omega (arith, next-there (at-start .pre) (leaf at-if1) (two at-if2), at-start .good)
 
 shared-slice-read-inside : tie.Need-shared-slice-read-inside
 shared-slice-read-inside c =
     let at-if2 = c .before .before in
-    let at-start = at-if2 .before .before .before .before .before in
-    next-there (at-start .pre) (leaf (at-if2 .before)) (two at-if2)
+    let at-if1 = at-if2 .before in
+    next-there (start at-if1 .pre) (leaf at-if1) (two at-if2)
 
 inside-requires : tie.Need-inside-requires
 inside-requires c κs = search needs
@@ -58,8 +56,8 @@ inside-requires c κs = search needs
 slice-write-classes : tie.Need-slice-write-classes
 slice-write-classes c =
     let at-if2 = c .before .before .before in
-    let at-start = at-if2 .before .before .before .before .before in
-    class-room (at-start .pre) (leaf (at-if2 .before)) (two at-if2)
+    let at-if1 = at-if2 .before in
+    class-room (start at-if1 .pre) (leaf at-if1) (two at-if2)
 
 add-t15 : tie.Need-add-t15
 add-t15 c = search needs
@@ -74,8 +72,8 @@ returns-3 : tie.Need-returns-3
 returns-3 c =
     let at-inside = c .before in
     let at-if2 = at-inside .before .before .before in
-    let at-start = at-if2 .before .before .before .before .before in
-    node-inside (at-start .pre) (leaf (at-if2 .before)) (two at-if2) _ _ (at-inside .inside .ensures) refl refl
+    let at-if1 = at-if2 .before in
+    node-inside (start at-if1 .pre) (leaf at-if1) (two at-if2) _ _ (at-inside .inside .ensures) refl refl
 
 pub read-node-spec : {M : Type 1} → statement M
 read-node-spec =
