@@ -23,20 +23,26 @@ enum-known-v c = search needs
 
 returns-4 : tie.Need-returns-4
 returns-4 c =
-    let judged = c .before .before .before .judge in
-    let sizes = c .before .before .before .before in
-    word-refused (sizes .before .before .if1 .left) (sizes .before .if2 .left) (sizes .if3 .left) (judged .result)
-    (c .before .v .given .0 .0) (c .before .v .given .1) (judged .ensures)
+    let at-v = c .before in
+    let at-judge = at-v .before .before in
+    let at-if3 = at-judge .before in
+    let at-if2 = at-if3 .before in
+    let at-if1 = at-if2 .before in
+    word-refused (at-if1 .if1 .left) (at-if2 .if2 .left) (at-if3 .if3 .left) (at-judge .judge .result)
+    (at-v .v .given .0 .0) (at-v .v .given .1) (at-judge .judge .ensures)
 
 enum-told : tie.Need-enum-told
 enum-told c = search needs
 
 fill-requires : tie.Need-fill-requires
 fill-requires c κs =
-    let judged = c .before .before .before .before .before .before .before .judge in
-    let sizes = c .before .before .before .before .before .before .before .before in
-    word-accepted (sizes .before .before .if1 .left) (sizes .before .if2 .left) (sizes .if3 .left) (judged .result)
-    (c .before .before .before .before .before .enum-told .given .1) (judged .ensures)
+    let at-enum-told = c .before .before .before .before .before in
+    let at-judge = at-enum-told .before .before in
+    let at-if3 = at-judge .before in
+    let at-if2 = at-if3 .before in
+    let at-if1 = at-if2 .before in
+    word-accepted (at-if1 .if1 .left) (at-if2 .if2 .left) (at-if3 .if3 .left) (at-judge .judge .result)
+    (at-enum-told .enum-told .given .1) (at-judge .judge .ensures)
 
 same-length : tie.Need-same-length
 same-length c = search needs
@@ -55,12 +61,15 @@ same-length-5 c = search needs
 
 returns-5 : tie.Need-returns-5
 returns-5 c =
-    let call = c .before .before .before .before .before .before .before .before .before .before in
-    let told = call .before .before .before .before .before .before in
-    let judged = told .before .before .judge in
-    let sizes = told .before .before .before in
-    tables-filled (sizes .before .before .if1 .left) (sizes .before .if2 .left) (sizes .if3 .left) (judged .result)
-    (told .enum-told .given .1) (judged .ensures) (call .fill .ensures)
+    let at-lefts = c .before .before .before .before .before in
+    let at-fill = at-lefts .before .before .before .before .before in
+    let at-enum-told = at-fill .before .before .before .before .before .before in
+    let at-judge = at-enum-told .before .before in
+    let at-if3 = at-judge .before in
+    let at-if2 = at-if3 .before in
+    let at-if1 = at-if2 .before in
+    tables-filled (at-if1 .if1 .left) (at-if2 .if2 .left) (at-if3 .if3 .left) (at-judge .judge .result)
+    (at-enum-told .enum-told .given .1) (at-judge .judge .ensures) (at-fill .fill .ensures)
 
 pub fill-tables-spec : {M : Type 1} → statement M
 fill-tables-spec =

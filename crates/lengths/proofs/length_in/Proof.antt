@@ -12,7 +12,9 @@ enum-known-pairing c = search needs
 
 -- The start, seen from behind the call that wrote the pair.
 abbrev start : tie.After-write-pair → tie.Start
-start c = c .before .before .before .before .before .before .before .before .before
+start c =
+    let at-slice-known2 = c .before .before .before .before .before in
+    at-slice-known2 .before .before .before .before
 
 same-length : tie.Need-same-length
 same-length c = search needs
@@ -22,16 +24,16 @@ same-length-2 c = search needs
 
 returns : tie.Need-returns
 returns c =
-    let call = c .before .before .before .before .before in
-    not-written (start call .pre) (call .write-pair .ensures) (c .match .keys2)
+    let at-write-pair = c .before .before .before .before .before in
+    not-written (start at-write-pair .pre) (at-write-pair .write-pair .ensures) (c .match .keys2)
 
 shapes-length-requires : tie.Need-shapes-length-requires
 shapes-length-requires c κs =
-    let known = c .before .before .before .before .before in
-    let call = known .before .before .before .before .before .before in
-    let rooms = start call .pre in
-    let w = call .write-pair .ensures in
-    let is = known .pairing .given .1 in
+    let at-pairing = c .before .before .before .before .before in
+    let at-write-pair = at-pairing .before .before .before .before .before .before in
+    let rooms = start at-write-pair .pre in
+    let w = at-write-pair .write-pair .ensures in
+    let is = at-pairing .pairing .given .1 in
     (pair-shaped rooms w is, (minus-within rooms w is, plus-within rooms w is))
 
 same-length-3 : tie.Need-same-length-3
@@ -48,10 +50,11 @@ same-length-6 c = search needs
 
 returns-2 : tie.Need-returns-2
 returns-2 c =
-    let sum = c .before .before .before .before in
-    let known = sum .before .before .before .before .before .before in
-    let call = known .before .before .before .before .before .before in
-    pair-summed (start call .pre) (call .write-pair .ensures) (known .pairing .given .1) (sum .shapes-length .ensures)
+    let at-shapes-length = c .before .before .before .before in
+    let at-pairing = at-shapes-length .before .before .before .before .before .before in
+    let at-write-pair = at-pairing .before .before .before .before .before .before in
+    pair-summed (start at-write-pair .pre) (at-write-pair .write-pair .ensures) (at-pairing .pairing .given .1)
+    (at-shapes-length .shapes-length .ensures)
 
 pub length-in-spec : {M : Type 1} → statement M
 length-in-spec =

@@ -11,8 +11,8 @@ large-length-requires c κs = search needs
 
 returns : tie.Need-returns
 returns c =
-    let x = c .before .before .before .before .args in
-    c .large-length .ensures ∙ within-largest (x .b .now) (x .a .now)
+    let args = c .before .before .before .before .args in
+    c .large-length .ensures ∙ within-largest (args .b .now) (args .a .now)
 
 small-length-requires : tie.Need-small-length-requires
 small-length-requires c κs = search needs
@@ -25,17 +25,19 @@ enum-told-2 c = search needs
 
 returns-2 : tie.Need-returns-2
 returns-2 c =
-    let call = c .before .before in
-    let x = call .before .before .before .before .args in
-    within-length (x .b .now) (x .a .now) smallCarets (c .enum-told2 .given .1) (call .small-length .ensures)
+    let at-small-length = c .before .before in
+    let args = at-small-length .before .before .before .before .args in
+    within-length (args .b .now) (args .a .now) smallCarets (c .enum-told2 .given .1)
+    (at-small-length .small-length .ensures)
 
 large-length-requires-2 : tie.Need-large-length-requires-2
 large-length-requires-2 c κs = search needs
 
 returns-3 : tie.Need-returns-3
 returns-3 c =
-    let x = c .before .before .before .before .before .before .before .args in
-    c .large-length2 .ensures ∙ within-largest (x .b .now) (x .a .now)
+    let at-small-length = c .before .before .before in
+    let args = at-small-length .before .before .before .before .args in
+    c .large-length2 .ensures ∙ within-largest (args .b .now) (args .a .now)
 
 pub pair-length-spec : {M : Type 1} → statement M
 pair-length-spec =

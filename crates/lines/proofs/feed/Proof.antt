@@ -46,10 +46,13 @@ loop-less c = omega arith
 
 -- src/lib.rt:34:5
 loop-again : tie.Need-loop-again Inv-loop μ-loop
-loop-again c = feed-more (c .before .before .before .before .before .before .before .loop .inv)
-    (c .before .before .before .before .before .before .loop-test .taken) _ _
-    (c .before .before .before .before .if1 .left) (c .before .before .keep .ensures .0)
-    (c .before .before .keep .ensures .1)
+loop-again c =
+    let at-keep = c .before .before in
+    let at-if1 = at-keep .before .before in
+    let at-loop-test = at-if1 .before .before in
+    let at-loop = at-loop-test .before in
+    feed-more (at-loop .loop .inv) (at-loop-test .loop-test .taken) _ _ (at-if1 .if1 .left) (at-keep .keep .ensures .0)
+    (at-keep .keep .ensures .1)
 
 -- src/lib.rt:29:1
 same-length-2 : tie.Need-same-length-2 Inv-loop μ-loop

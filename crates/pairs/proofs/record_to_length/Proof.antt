@@ -25,8 +25,10 @@ refusal-of-requires c κs = search needs
 
 returns : tie.Need-returns
 returns c =
-    length-refused own-cleared (c .before .before .before .before .before .record-to-tables .ensures) (c .before
-    .enum-told2 .given .1) _ (c .refusal-of .ensures)
+    let at-enum-told2 = c .before in
+    let at-record-to-tables = at-enum-told2 .before .before .before .before in
+    length-refused own-cleared (at-record-to-tables .record-to-tables .ensures) (at-enum-told2 .enum-told2 .given .1) _
+    (c .refusal-of .ensures)
 
 slice-aggregate-pair-length : tie.Need-slice-aggregate-pair-length
 slice-aggregate-pair-length c = search needs
@@ -42,9 +44,11 @@ measured-requires c κs = search needs
 
 returns-2 : tie.Need-returns-2
 returns-2 c =
-    length-answer own-cleared (c .before .before .before .before .before .before .before .before .record-to-tables
-    .ensures) (c .before .before .before .before .enum-told .given .1) (c .before .pair-length .result) _
-    (c .before .pair-length .ensures) (c .measured .ensures)
+    let at-pair-length = c .before in
+    let at-enum-told = at-pair-length .before .before .before in
+    let at-record-to-tables = at-enum-told .before .before .before .before in
+    length-answer own-cleared (at-record-to-tables .record-to-tables .ensures) (at-enum-told .enum-told .given .1)
+    (at-pair-length .pair-length .result) _ (at-pair-length .pair-length .ensures) (c .measured .ensures)
 
 pub record-to-length-spec : {M : Type 1} → statement M
 record-to-length-spec =

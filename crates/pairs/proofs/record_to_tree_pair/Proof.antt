@@ -25,8 +25,10 @@ refusal-of-requires c κs = search needs
 
 returns : tie.Need-returns
 returns c =
-    pair-refused own-cleared (c .before .before .before .before .before .record-to-tables .ensures) (c .before
-    .enum-told2 .given .1) _ (c .refusal-of .ensures)
+    let at-enum-told2 = c .before in
+    let at-record-to-tables = at-enum-told2 .before .before .before .before in
+    pair-refused own-cleared (at-record-to-tables .record-to-tables .ensures) (at-enum-told2 .enum-told2 .given .1) _
+    (c .refusal-of .ensures)
 
 slice-aggregate-write-pair : tie.Need-slice-aggregate-write-pair
 slice-aggregate-write-pair c = search needs
@@ -48,10 +50,11 @@ same-length-2 c = search needs
 
 returns-2 : tie.Need-returns-2
 returns-2 c =
-    pair-answer own-cleared (c .before .before .before .before .before .before .before .before .before .before .before
-    .before .before .before .record-to-tables .ensures) (c .before .before .before .before .before .before .before
-    .before .before .before .enum-told .given .1) _ _
-    (c .before .before .before .before .before .write-pair .ensures) (c .paired .ensures)
+    let at-write-pair = c .before .before .before .before .before in
+    let at-enum-told = at-write-pair .before .before .before .before .before in
+    let at-record-to-tables = at-enum-told .before .before .before .before in
+    pair-answer own-cleared (at-record-to-tables .record-to-tables .ensures) (at-enum-told .enum-told .given .1) _ _
+    (at-write-pair .write-pair .ensures) (c .paired .ensures)
 
 pub record-to-tree-pair-spec : {M : Type 1} → statement M
 record-to-tree-pair-spec =

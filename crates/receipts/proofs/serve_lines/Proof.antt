@@ -23,32 +23,45 @@ feed-requires c κs = tt
 
 put-held-requires : tie.Need-put-held-requires Inv-loop μ-loop
 put-held-requires c κs =
-    let fed = c .before .before .before .before in
-    serve-room (fed .before .before .before .loop .inv) (fed .feed .ensures) (c .before .before .before .if1 .taken)
-    (fed .before .feed-arg .given .0 .1)
+    let at-if1 = c .before .before .before in
+    let at-feed = at-if1 .before in
+    let at-feed-arg = at-feed .before in
+    let at-loop = at-feed-arg .before .before in
+    serve-room (at-loop .loop .inv) (at-feed .feed .ensures) (at-if1 .if1 .taken) (at-feed-arg .feed-arg .given .0 .1)
 
 wrapping-add-u64-requires : tie.Need-wrapping-add-u64-requires Inv-loop μ-loop
 wrapping-add-u64-requires c κs = tt
 
 loop-less : tie.Need-loop-less Inv-loop μ-loop
 loop-less c =
-    let branch = c .before .before .before .before .before .before .before in
-    let turn = branch .before .before .before in
-    serve-less (turn .before .loop .inv) (branch .before .feed .ensures) (branch .if1 .taken) (turn .loop-test .taken)
+    let at-put-held = c .before .before .before in
+    let at-if1 = at-put-held .before .before .before .before in
+    let at-feed = at-if1 .before in
+    let at-loop-test = at-feed .before .before in
+    let at-loop = at-loop-test .before in
+    serve-less (at-loop .loop .inv) (at-feed .feed .ensures) (at-if1 .if1 .taken) (at-loop-test .loop-test .taken)
 
 loop-again : tie.Need-loop-again Inv-loop μ-loop
 loop-again c =
-    let branch = c .before .before .before .before .before .before .before in
-    serve-next (branch .before .before .before .before .loop .inv) (branch .before .feed .ensures) (branch .if1 .taken)
-    (c .before .before .before .put-held .ensures) (c .wrapping-add-u64 .ensures)
+    let at-put-held = c .before .before .before in
+    let at-if1 = at-put-held .before .before .before .before in
+    let at-feed = at-if1 .before in
+    let at-loop = at-feed .before .before .before in
+    serve-next (at-loop .loop .inv) (at-feed .feed .ensures) (at-if1 .if1 .taken) (at-put-held .put-held .ensures)
+    (c .wrapping-add-u64 .ensures)
 
 loop-less-2 : tie.Need-loop-less-2 Inv-loop μ-loop
 loop-less-2 c =
-    let turn = c .before .before .before in
-    serve-out-less (turn .before .loop .inv) (c .before .feed .ensures) (c .if1 .left) (turn .loop-test .taken)
+    let at-feed = c .before in
+    let at-loop-test = at-feed .before .before in
+    let at-loop = at-loop-test .before in
+    serve-out-less (at-loop .loop .inv) (at-feed .feed .ensures) (c .if1 .left) (at-loop-test .loop-test .taken)
 
 loop-again-2 : tie.Need-loop-again-2 Inv-loop μ-loop
-loop-again-2 c = serve-out (c .before .before .before .before .loop .inv) (c .before .feed .ensures) (c .if1 .left)
+loop-again-2 c =
+    let at-feed = c .before in
+    let at-loop = at-feed .before .before .before in
+    serve-out (at-loop .loop .inv) (at-feed .feed .ensures) (c .if1 .left)
 
 same-length : tie.Need-same-length Inv-loop μ-loop
 same-length c = writing-length (c .before .loop .inv .left .writing)

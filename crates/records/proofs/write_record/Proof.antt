@@ -36,36 +36,39 @@ add-if3-2 c = search needs
 
 returns-3 : tie.Need-returns-3
 returns-3 c =
-    let entry = c .before .before .before .before .before .before .before .before in
-    short-buffer (omega arith) (omega arith) (omega (arith, record-length (entry .args .b .now) (entry .args .a .now)))
+    let at-if1 = c .before .before .before .before in
+    let args = at-if1 .before .before .before .before .args in
+    short-buffer (omega arith) (omega arith) (omega (arith, record-length (args .b .now) (args .a .now)))
 
 put-record-requires : tie.Need-put-record-requires
 put-record-requires c κs =
-    let entry = c .before .before .before .before .before .before .before .before .before in
-    omega (
-      arith,
-      entries-length (powers 0 (entry .args .b .now)),
-      entries-length (powers 0 (entry .args .a .now)),
-    )
+    let at-if1 = c .before .before .before .before .before in
+    let args = at-if1 .before .before .before .before .args in
+    omega (arith, entries-length (powers 0 (args .b .now)), entries-length (powers 0 (args .a .now)))
 
 same-length : tie.Need-same-length
 same-length c = search needs
 
 returns-4 : tie.Need-returns-4
 returns-4 c =
-    let judged = c .before .before .before .before in
-    let entry = judged .before .before .before .before .before .before .before .before in
+    let at-put-record = c .before .before in
+    let at-if3 = at-put-record .before .before in
+    let at-count-powers2 = at-if3 .before in
+    let at-count-powers = at-count-powers2 .before in
+    let at-if2 = at-count-powers .before in
+    let at-if1 = at-if2 .before in
+    let args = at-if1 .before .before .before .before .args in
     all-written
-    (omega (arith, judged .before .before .before .before .if1 .left))
-    (omega (arith, judged .before .before .before .if2 .left))
+    (omega (arith, at-if1 .if1 .left))
+    (omega (arith, at-if2 .if2 .left))
     (omega (
       arith,
-      record-length (entry .args .b .now) (entry .args .a .now),
-      judged .if3 .left,
-      judged .before .count-powers2 .ensures,
-      judged .before .before .count-powers .ensures,
+      record-length (args .b .now) (args .a .now),
+      at-if3 .if3 .left,
+      at-count-powers2 .count-powers2 .ensures,
+      at-count-powers .count-powers .ensures,
     ))
-    (c .before .before .put-record .ensures)
+    (at-put-record .put-record .ensures)
 
 pub write-record-spec : {M : Type 1} → statement M
 write-record-spec =

@@ -25,8 +25,10 @@ refusal-of-requires c κs = search needs
 
 returns : tie.Need-returns
 returns c =
-    word-refused own-cleared (c .before .before .before .before .before .record-to-tables .ensures) (c .before
-    .enum-told2 .given .1) _ (c .refusal-of .ensures)
+    let at-enum-told2 = c .before in
+    let at-record-to-tables = at-enum-told2 .before .before .before .before in
+    word-refused own-cleared (at-record-to-tables .record-to-tables .ensures) (at-enum-told2 .enum-told2 .given .1) _
+    (c .refusal-of .ensures)
 
 slice-aggregate-count : tie.Need-slice-aggregate-count
 slice-aggregate-count c = search needs
@@ -39,19 +41,19 @@ count-requires c κs = search needs
 
 returns-2 : tie.Need-returns-2
 returns-2 c =
-    let counted = c .before in
-    let told = counted .before .before .before in
-    let read = told .before .before .before .before .record-to-tables .ensures in
-    word-long own-cleared read (told .enum-told .given .1)
-    (counted .count .result) (counted .count .ensures) (omega arith)
+    let at-count = c .before in
+    let at-enum-told = at-count .before .before .before in
+    let at-record-to-tables = at-enum-told .before .before .before .before in
+    word-long own-cleared (at-record-to-tables .record-to-tables .ensures) (at-enum-told .enum-told .given .1)
+    (at-count .count .result) (at-count .count .ensures) (omega arith)
 
 returns-3 : tie.Need-returns-3
 returns-3 c =
-    let counted = c .before .before in
-    let told = counted .before .before .before in
-    let read = told .before .before .before .before .record-to-tables .ensures in
-    word-short own-cleared read (told .enum-told .given .1)
-    (counted .count .result) (counted .count .ensures) (omega arith) (omega arith)
+    let at-count = c .before .before in
+    let at-enum-told = at-count .before .before .before in
+    let at-record-to-tables = at-enum-told .before .before .before .before in
+    word-short own-cleared (at-record-to-tables .record-to-tables .ensures) (at-enum-told .enum-told .given .1)
+    (at-count .count .result) (at-count .count .ensures) (omega arith) (omega arith)
 
 slice-aggregate-write : tie.Need-slice-aggregate-write
 slice-aggregate-write c = search needs
@@ -61,20 +63,20 @@ slice-aggregate-write-2 c = search needs
 
 write-requires : tie.Need-write-requires
 write-requires c κs =
-    let counted = c .before .before .before .before .before in
-    ((search needs, search needs), omega (arith, counted .count .ensures))
+    let at-count = c .before .before .before .before .before in
+    ((search needs, search needs), omega (arith, at-count .count .ensures))
 
 same-length : tie.Need-same-length
 same-length c = search needs
 
 returns-4 : tie.Need-returns-4
 returns-4 c =
-    let wrote = c .before .before in
-    let counted = wrote .before .before .before .before .before .before in
-    let told = counted .before .before .before in
-    let read = told .before .before .before .before .record-to-tables .ensures in
-    word-answer own-cleared read (told .enum-told .given .1)
-    (counted .count .result) (counted .count .ensures) (omega arith) (omega arith) (wrote .write .ensures)
+    let at-write = c .before .before in
+    let at-count = at-write .before .before .before .before .before .before in
+    let at-enum-told = at-count .before .before .before in
+    let at-record-to-tables = at-enum-told .before .before .before .before in
+    word-answer own-cleared (at-record-to-tables .record-to-tables .ensures) (at-enum-told .enum-told .given .1)
+    (at-count .count .result) (at-count .count .ensures) (omega arith) (omega arith) (at-write .write .ensures)
 
 pub record-to-word-spec : {M : Type 1} → statement M
 record-to-word-spec =

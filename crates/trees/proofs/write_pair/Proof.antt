@@ -6,10 +6,14 @@ use Rattle.trees.proofs.PairAnswers.{fits-minus, fits-plus, pair-writte
 use Rattle.trees.proofs.write_pair.Statement.{statement}
 use Rattle.trees.proofs.write_pair.Tie as tie
 
+-- The start, seen from behind the count of the carets.
+abbrev start : tie.After-count-carets → tie.Start
+start c = c .before .before .before .before .before
+
 -- The number of carets that was counted.
 counts : (c : tie.After-known-told)
-    → Counts (c .before .before .before .before .before .before .before .before .args .b .now)
-    (c .before .before .before .before .before .before .before .before .args .a .now) (c .before .counted .given .0 .0)
+    → Counts (start (c .before .before .before) .args .b .now) (start (c .before .before .before) .args .a .now)
+    (c .before .counted .given .0 .0)
 counts c = counted (c .before .before .before .count-carets .ensures) (c .before .counted .given .1)
 
 count-carets-requires : tie.Need-count-carets-requires
@@ -44,7 +48,9 @@ write-tree-requires c κs = fits-minus (counts (c .before .before .before)) (ome
 
 write-tree-requires-2 : tie.Need-write-tree-requires-2
 write-tree-requires-2 c κs =
-    fits-plus (counts (c .before .before .before .before .before .before .before)) (omega arith)
+    let at-write-tree = c .before .before .before in
+    let at-known-told = at-write-tree .before .before .before .before in
+    fits-plus (counts at-known-told) (omega arith)
 
 same-length : tie.Need-same-length
 same-length c = search needs
@@ -54,10 +60,13 @@ same-length-2 c = search needs
 
 returns-4 : tie.Need-returns-4
 returns-4 c =
-    let first = c .before .before .before .before .before .before in
-    let second = first .before .before in
-    pair-written (counts (second .before .before)) (omega (arith, second .before .if1 .left))
-    (omega (arith, second .if2 .left)) (first .write-tree .ensures) (c .before .before .write-tree2 .ensures)
+    let at-write-tree2 = c .before .before in
+    let at-write-tree = at-write-tree2 .before .before .before .before in
+    let at-if2 = at-write-tree .before .before in
+    let at-if1 = at-if2 .before in
+    let at-known-told = at-if1 .before in
+    pair-written (counts at-known-told) (omega (arith, at-if1 .if1 .left)) (omega (arith, at-if2 .if2 .left))
+    (at-write-tree .write-tree .ensures) (at-write-tree2 .write-tree2 .ensures)
 
 pub write-pair-spec : {M : Type 1} → statement M
 write-pair-spec =

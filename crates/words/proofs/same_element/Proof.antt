@@ -1,9 +1,43 @@
 -- `same_element` meets its contract: both words are judged, and then written. Assumes nothing.
-use Rattle.words.specs.Recording.{memory}
+use Rattle.words.specs.Recording.{Memory, memory, Accepts}
 use Rattle.words.proofs.Compared.{verdict-accepts, first-refused, second-refused, both-written}
 use borrow.Author.Needs.{needs}
 use Rattle.words.proofs.same_element.Statement.{statement}
 use Rattle.words.proofs.same_element.Tie as tie
+
+-- The entry, seen from where the first word was judged.
+abbrev start : tie.After-judge → tie.Start
+start c =
+    let at-shared-slice-known2 = c .before .before .before .before in
+    at-shared-slice-known2 .before .before .before .before .before
+
+-- What was lent with the first word, and with the second.
+abbrev lent1 : tie.Start → Memory
+lent1 s = memory (s .args .b-table1 .now) (s .args .a-table1 .now) (s .args .record1 .now)
+
+abbrev lent2 : tie.Start → Memory
+lent2 s = memory (s .args .b-table2 .now) (s .args .a-table2 .now) (s .args .record2 .now)
+
+-- The first word was accepted beside it, and then the second.
+abbrev Accepts1 : tie.Start → Type 0
+Accepts1 s = Accepts (s .args .word1 .now) (lent1 s)
+
+abbrev Accepts2 : tie.Start → Type 0
+Accepts2 s = Accepts (s .args .word2 .now) (lent2 s)
+
+accepts1 : (c : tie.After-enum-told) → Accepts1 (start (c .before .before))
+accepts1 c =
+    let at-judge = c .before .before in
+    let at-start = start at-judge in
+    verdict-accepts (at-start .args .word1 .now) (lent1 at-start) (at-judge .judge .result) (at-judge .judge .ensures)
+    (c .enum-told .given .1)
+
+accepts2 : (c : tie.After-enum-told2) → Accepts2 (start (c .before .before .before .before .before))
+accepts2 c =
+    let at-judge2 = c .before .before in
+    let at-start = start (at-judge2 .before .before .before) in
+    verdict-accepts (at-start .args .word2 .now) (lent2 at-start) (at-judge2 .judge2 .result)
+    (at-judge2 .judge2 .ensures) (c .enum-told2 .given .1)
 
 judge-requires : tie.Need-judge-requires
 judge-requires c κs = search needs
@@ -12,16 +46,11 @@ enum-known-first : tie.Need-enum-known-first
 enum-known-first c = search needs
 
 returns : tie.Need-returns
-returns c = first-refused (c .before .before .before .before .before .before .before .before .before .before .before
-    .before .args .word1 .now) (memory (c .before .before .before .before .before .before .before .before .before
-    .before .before .before .args .b-table1 .now) (c .before .before .before .before .before .before .before .before
-    .before .before .before .before .args .a-table1 .now) (c .before .before .before .before .before .before .before
-    .before .before .before .before .before .args .record1 .now)) (c .before .before .before .before .before .before
-    .before .before .before .before .before .before .args .word2 .now) (memory (c .before .before .before .before
-    .before .before .before .before .before .before .before .before .args .b-table2 .now) (c .before .before .before
-    .before .before .before .before .before .before .before .before .before .args .a-table2 .now) (c .before .before
-    .before .before .before .before .before .before .before .before .before .before .args .record2 .now)) (c .before
-    .before .before .judge .result) _ (c .before .before .before .judge .ensures) (c .before .first .given .1)
+returns c =
+    let at-judge = c .before .before .before in
+    let at-start = start at-judge in
+    first-refused (at-start .args .word1 .now) (lent1 at-start) (at-start .args .word2 .now) (lent2 at-start)
+    (at-judge .judge .result) _ (at-judge .judge .ensures) (c .before .first .given .1)
 
 enum-told : tie.Need-enum-told
 enum-told c = search needs
@@ -33,53 +62,21 @@ enum-known-second : tie.Need-enum-known-second
 enum-known-second c = search needs
 
 returns-2 : tie.Need-returns-2
-returns-2 c = second-refused (c .before .before .before .before .before .before .before .before .before .before .before
-    .before .before .before .before .args .word1 .now) (memory (c .before .before .before .before .before .before
-    .before .before .before .before .before .before .before .before .before .args .b-table1 .now) (c .before .before
-    .before .before .before .before .before .before .before .before .before .before .before .before .before .args
-    .a-table1 .now) (c .before .before .before .before .before .before .before .before .before .before .before .before
-    .before .before .before .args .record1 .now)) (c .before .before .before .before .before .before .before .before
-    .before .before .before .before .before .before .before .args .word2 .now) (memory (c .before .before .before
-    .before .before .before .before .before .before .before .before .before .before .before .before .args .b-table2
-    .now) (c .before .before .before .before .before .before .before .before .before .before .before .before .before
-    .before .before .args .a-table2 .now) (c .before .before .before .before .before .before .before .before .before
-    .before .before .before .before .before .before .args .record2 .now)) (c .before .before .before .judge2 .result) _
-    (verdict-accepts (c .before .before .before .before .before .before .before .before .before .before .before .before
-    .before .before .before .args .word1 .now) (memory (c .before .before .before .before .before .before .before
-    .before .before .before .before .before .before .before .before .args .b-table1 .now) (c .before .before .before
-    .before .before .before .before .before .before .before .before .before .before .before .before .args .a-table1
-    .now) (c .before .before .before .before .before .before .before .before .before .before .before .before .before
-    .before .before .args .record1 .now)) (c .before .before .before .before .before .before .judge .result) (c .before
-    .before .before .before .before .before .judge .ensures) (c .before .before .before .before .enum-told .given .1))
-    (c .before .before .before .judge2 .ensures) (c .before .second .given .1)
+returns-2 c =
+    let at-judge2 = c .before .before .before in
+    let at-enum-told = at-judge2 .before in
+    let at-start = start (at-enum-told .before .before) in
+    second-refused (at-start .args .word1 .now) (lent1 at-start) (at-start .args .word2 .now) (lent2 at-start)
+    (at-judge2 .judge2 .result) _ (accepts1 at-enum-told) (at-judge2 .judge2 .ensures) (c .before .second .given .1)
 
 enum-told-2 : tie.Need-enum-told-2
 enum-told-2 c = search needs
 
 write-two-requires : tie.Need-write-two-requires
-write-two-requires c κs = (
-  verdict-accepts (c .before .before .before .before .before .before .before .before .before
-      .before .before .before .before .before .before .before .before .before .before .before .args .word1 .now) (memory
-      (c .before .before .before .before .before .before .before .before .before .before .before .before .before .before
-      .before .before .before .before .before .before .args .b-table1 .now) (c .before .before .before .before .before
-      .before .before .before .before .before .before .before .before .before .before .before .before .before .before
-      .before .args .a-table1 .now) (c .before .before .before .before .before .before .before .before .before .before
-      .before .before .before .before .before .before .before .before .before .before .args .record1 .now)) (c .before
-      .before .before .before .before .before .before .before .before .before .before .judge .result) (c .before .before
-      .before .before .before .before .before .before .before .before .before .judge .ensures) (c .before
-      .before .before
-      .before .before .before .before .before .before .enum-told .given .1),
-  verdict-accepts (c .before .before .before
-      .before .before .before .before .before .before .before .before .before .before .before .before .before .before
-      .before .before .before .args .word2 .now) (memory (c .before .before .before .before .before .before .before
-      .before .before .before .before .before .before .before .before .before .before .before .before .before .args
-      .b-table2 .now) (c .before .before .before .before .before .before .before .before .before .before .before .before
-      .before .before .before .before .before .before .before .before .args .a-table2 .now) (c .before .before .before
-      .before .before .before .before .before .before .before .before .before .before .before .before .before .before
-      .before .before .before .args .record2 .now)) (c .before .before .before .before .before .before .before .before
-      .judge2 .result) (c .before .before .before .before .before .before .before .before .judge2 .ensures) (c .before
-      .before .before .before .before .before .enum-told2 .given .1),
-)
+write-two-requires c κs =
+    let at-enum-told2 = c .before .before .before .before .before .before in
+    let at-enum-told = at-enum-told2 .before .before .before in
+    (accepts1 at-enum-told, accepts2 at-enum-told2)
 
 verdict-requires : tie.Need-verdict-requires
 verdict-requires c κs = search needs
@@ -102,64 +99,32 @@ same-length-5 c = search needs
 same-length-6 : tie.Need-same-length-6
 same-length-6 c = search needs
 
+-- The call that wrote both, seen from behind the verdict, and what it left of the two memories.
+abbrev call : tie.After-verdict → tie.After-write-two
+call c =
+    let at-b-table2 = c .before .before .before .before .before .before in
+    let at-b-table1 = at-b-table2 .before .before .before .before .before .before in
+    at-b-table1 .before
+
+abbrev left1 : tie.After-write-two → Memory
+left1 c = memory (c .write-two .last .1 .0) (c .write-two .last .1 .1 .0) (c .write-two .last .1 .1 .1 .0)
+
+abbrev left2 : tie.After-write-two → Memory
+left2 c =
+    let behind = c .write-two .last .1 .1 .1 .1 in
+    memory (behind .1 .0) (behind .1 .1 .0) (behind .1 .1 .1 .0)
+
 returns-3 : tie.Need-returns-3
-returns-3 c = both-written (c .before .before .before .before .before .before .before .before .before .before .before
-    .before .before .before .before .before .before .before .before .before .before .before .before .before .before
-    .before .before .before .before .before .before .before .before .before .args .word1 .now) (memory (c .before
-    .before .before .before .before .before .before .before .before .before .before .before .before .before .before
-    .before .before .before .before .before .before .before .before .before .before .before .before .before .before
-    .before .before .before .before .before .args .b-table1 .now) (c .before .before .before .before .before .before
-    .before .before .before .before .before .before .before .before .before .before .before .before .before .before
-    .before .before .before .before .before .before .before .before .before .before .before .before .before .before
-    .args .a-table1 .now) (c .before .before .before .before .before .before .before .before .before .before .before
-    .before .before .before .before .before .before .before .before .before .before .before .before .before .before
-    .before .before .before .before .before .before .before .before .before .args .record1 .now)) _ (c .before .before
-    .before .before .before .before .before .before .before .before .before .before .before .before .before .before
-    .before .before .before .before .before .before .before .before .before .before .before .before .before .before
-    .before .before .before .before .args .word2 .now) (memory (c .before .before .before .before .before .before
-    .before .before .before .before .before .before .before .before .before .before .before .before .before .before
-    .before .before .before .before .before .before .before .before .before .before .before .before .before .before
-    .args .b-table2 .now) (c .before .before .before .before .before .before .before .before .before .before .before
-    .before .before .before .before .before .before .before .before .before .before .before .before .before .before
-    .before .before .before .before .before .before .before .before .before .args .a-table2 .now) (c .before .before
-    .before .before .before .before .before .before .before .before .before .before .before .before .before .before
-    .before .before .before .before .before .before .before .before .before .before .before .before .before .before
-    .before .before .before .before .args .record2 .now)) _ (verdict-accepts (c .before .before .before .before .before
-    .before .before .before .before .before .before .before .before .before .before .before .before .before .before
-    .before .before .before .before .before .before .before .before .before .before .before .before .before .before
-    .before .args .word1 .now) (memory (c .before .before .before .before .before .before .before .before .before
-    .before .before .before .before .before .before .before .before .before .before .before .before .before .before
-    .before .before .before .before .before .before .before .before .before .before .before .args .b-table1 .now) (c
-    .before .before .before .before .before .before .before .before .before .before .before .before .before .before
-    .before .before .before .before .before .before .before .before .before .before .before .before .before .before
-    .before .before .before .before .before .before .args .a-table1 .now) (c .before .before .before .before .before
-    .before .before .before .before .before .before .before .before .before .before .before .before .before .before
-    .before .before .before .before .before .before .before .before .before .before .before .before .before .before
-    .before .args .record1 .now)) (c .before .before .before .before .before .before .before .before .before .before
-    .before .before .before .before .before .before .before .before .before .before .before .before .before .before
-    .before .judge .result) (c .before .before .before .before .before .before .before .before .before .before .before
-    .before .before .before .before .before .before .before .before .before .before .before .before .before .before
-    .judge .ensures) (c .before .before .before .before .before .before .before .before .before .before .before .before
-    .before .before .before .before .before .before .before .before .before .before .before .enum-told .given .1))
-    (verdict-accepts (c .before .before .before .before .before .before .before .before .before .before .before .before
-    .before .before .before .before .before .before .before .before .before .before .before .before .before .before
-    .before .before .before .before .before .before .before .before .args .word2 .now) (memory (c .before .before
-    .before .before .before .before .before .before .before .before .before .before .before .before .before .before
-    .before .before .before .before .before .before .before .before .before .before .before .before .before .before
-    .before .before .before .before .args .b-table2 .now) (c .before .before .before .before .before .before .before
-    .before .before .before .before .before .before .before .before .before .before .before .before .before .before
-    .before .before .before .before .before .before .before .before .before .before .before .before .before .args
-    .a-table2 .now) (c .before .before .before .before .before .before .before .before .before .before .before .before
-    .before .before .before .before .before .before .before .before .before .before .before .before .before .before
-    .before .before .before .before .before .before .before .before .args .record2 .now)) (c .before .before .before
-    .before .before .before .before .before .before .before .before .before .before .before .before .before .before
-    .before .before .before .before .before .judge2 .result) (c .before .before .before .before .before .before .before
-    .before .before .before .before .before .before .before .before .before .before .before .before .before .before
-    .before .judge2 .ensures) (c .before .before .before .before .before .before .before .before .before .before
-    .before .before .before .before .before .before .before .before .before .before .enum-told2 .given .1)) (c .before
-    .before .before .before .before .before .before .before .before .before .before .before .before .write-two .result)
-    (c .before .before .before .before .before .before .before .before .before .before .before .before .before
-    .write-two .ensures) (c .verdict .result) (c .verdict .ensures)
+returns-3 c =
+    let at-write-two = call c in
+    let at-write-two-arg = at-write-two .before .before .before .before .before .before in
+    let at-enum-told2 = at-write-two-arg .before in
+    let at-enum-told = at-enum-told2 .before .before .before in
+    let at-start = start (at-enum-told .before .before) in
+    both-written (at-start .args .word1 .now) (lent1 at-start) (left1 at-write-two)
+    (at-start .args .word2 .now) (lent2 at-start) (left2 at-write-two)
+    (accepts1 at-enum-told) (accepts2 at-enum-told2)
+    (at-write-two .write-two .result) (at-write-two .write-two .ensures) (c .verdict .result) (c .verdict .ensures)
 
 pub same-element-spec : {M : Type 1} → statement M
 same-element-spec =

@@ -12,11 +12,12 @@ enum-known-verdict : tie.Need-enum-known-verdict
 enum-known-verdict c = search needs
 
 returns : tie.Need-returns
-returns c = refused-recorded (c .before .before .before .before .before .before .before .before .args .word .now)
-    (memory (c .before .before .before .before .before .before .before .before .args .b-table .now) (c .before .before
-    .before .before .before .before .before .before .args .a-table .now) (c .before .before .before .before .before
-    .before .before .before .args .«record» .now)) (c .before .before .before .judge .result) _ (c .before .before
-    .before .judge .ensures) (c .before .verdict .given .1)
+returns c =
+    let at-judge = c .before .before .before in
+    let args = at-judge .before .before .before .before .before .args in
+    let lent = memory (args .b-table .now) (args .a-table .now) (args .«record» .now) in
+    refused-recorded (args .word .now) lent (at-judge .judge .result) _ (at-judge .judge .ensures)
+    (c .before .verdict .given .1)
 
 enum-told : tie.Need-enum-told
 enum-told c = search needs
@@ -31,14 +32,13 @@ slice-aggregate-write-word-3 : tie.Need-slice-aggregate-write-word-3
 slice-aggregate-write-word-3 c = search needs
 
 write-word-requires : tie.Need-write-word-requires
-write-word-requires c κs = word-ready (c .before .before .before .before .before .before .before .before .before
-    .before .before .before .before .args .word .now) (memory (c .before .before .before .before .before .before
-    .before .before .before .before .before .before .before .args .b-table .now) (c .before .before .before .before
-    .before .before .before .before .before .before .before .before .before .args .a-table .now) (c .before .before
-    .before .before .before .before .before .before .before .before .before .before .before .args .«record» .now)) (c
-    .before .before .before .before .before .before .before .before .judge .result) (c .before .before .before .before
-    .before .before .before .before .judge .ensures) (c .before .before .before .before .before .before .enum-told
-    .given .1)
+write-word-requires c κs =
+    let at-enum-told = c .before .before .before .before .before .before in
+    let at-judge = at-enum-told .before .before in
+    let args = at-judge .before .before .before .before .before .args in
+    let lent = memory (args .b-table .now) (args .a-table .now) (args .«record» .now) in
+    word-ready (args .word .now) lent (at-judge .judge .result) (at-judge .judge .ensures)
+    (at-enum-told .enum-told .given .1)
 
 same-length : tie.Need-same-length
 same-length c = search needs
@@ -50,8 +50,10 @@ same-length-3 : tie.Need-same-length-3
 same-length-3 c = search needs
 
 returns-2 : tie.Need-returns-2
-returns-2 c = let w = c .before .before .before .before .before .before .before .before .before .write-word .ensures in
-    record { result = w .result; leaves = w .leaves }
+returns-2 c =
+    let at-slice-known6 = c .before .before .before in
+    let written = at-slice-known6 .before .before .before .before .before .before .write-word .ensures in
+    record { result = written .result; leaves = written .leaves }
 
 pub word-to-record-spec : {M : Type 1} → statement M
 word-to-record-spec =

@@ -22,7 +22,9 @@ turn : (c : tie.In-loop Inv-loop μ-loop)
     → Turn (c .before .before .before .before .before .before .args .lefts .now) (c .before .loop .code)
     (c .before .loop .height)
 turn c =
-    walk-turn (c .before .loop .inv) (c .before .before .before .before .before .before .pre) (c .loop-test .taken)
+    let at-loop = c .before in
+    let at-start = at-loop .before .before .before .before .before in
+    walk-turn (at-loop .loop .inv) (at-start .pre) (c .loop-test .taken)
 
 below-stem-requires : tie.Need-below-stem-requires Inv-loop μ-loop
 below-stem-requires c κs = omega (arith, standing-below (c .before .before .before .pre))
@@ -49,27 +51,33 @@ mul-code : tie.Need-mul-code Inv-loop μ-loop
 mul-code c = omega arith
 
 shared-slice-read-code : tie.Need-shared-slice-read-code Inv-loop μ-loop
-shared-slice-read-code c = omega (arith, turn (c .before .before .before .before .before .before .before))
+shared-slice-read-code c =
+    let at-wide = c .before .before .before .before .before .before in
+    omega (arith, turn (at-wide .before))
 
 add-edges : tie.Need-add-edges Inv-loop μ-loop
-add-edges c = omega (arith, turn (c .before .before .before .before .before .before .before))
+add-edges c =
+    let at-wide = c .before .before .before .before .before .before in
+    omega (arith, turn (at-wide .before))
 
 loop-less : tie.Need-loop-less Inv-loop μ-loop
 loop-less c =
-    let at = c .before .before .before .before .before .before .before in
-    let lefts = at .before .before .before .before .before .before .args .lefts .now in
-    let k = c .before .before .before .before .before .before .wide in
-    let same : getD lefts (k .result) 0 ≡ getD lefts (at .before .loop .code) 0 =
-    ap (λ (j : ℕ). getD lefts j 0) (k .ensures) in
-    omega (arith, turn at, same)
+    let at-wide = c .before .before .before .before .before .before in
+    let at-loop-test = at-wide .before in
+    let at-loop = at-loop-test .before in
+    let lefts = at-loop .before .before .before .before .before .args .lefts .now in
+    let same : getD lefts (at-wide .wide .result) 0 ≡ getD lefts (at-loop .loop .code) 0 =
+    ap (λ (j : ℕ). getD lefts j 0) (at-wide .wide .ensures) in
+    omega (arith, turn at-loop-test, same)
 
 loop-again : tie.Need-loop-again Inv-loop μ-loop
 loop-again c =
-    let push = c .before .before .before .push in
-    let k = c .before .before .before .before .before .before .wide in
-    let at = c .before .before .before .before .before .before .before in
-    walk-more (at .before .loop .inv) (k .result) (k .ensures) (at .loop-test .taken) (turn at .lower)
-    (push .kept .0) (push .ensures)
+    let at-push = c .before .before .before in
+    let at-wide = at-push .before .before .before in
+    let at-loop-test = at-wide .before in
+    let at-loop = at-loop-test .before in
+    walk-more (at-loop .loop .inv) (at-wide .wide .result) (at-wide .wide .ensures) (at-loop-test .loop-test .taken)
+    (turn at-loop-test .lower) (at-push .push .kept .0) (at-push .push .ensures)
 
 same-length : tie.Need-same-length Inv-loop μ-loop
 same-length c = c .before .loop .inv .same

@@ -10,10 +10,12 @@ run-requires c κs = search needs
 
 read-off-requires : tie.Need-read-off-requires
 read-off-requires c κs =
-    let call = c .before .before .before .before .before .before .before .before .before .before .before in
-    let asked = call .before .before .before .before .before .before .before .before .before .before .pre in
-    let same = call .run .kept .1 in
-    (ended (asked .0) (same .0) (same .1 .0) (same .1 .1 .0) (call .run .ensures), asked .1)
+    let at-slice-known8 = c .before .before .before .before .before in
+    let at-run = at-slice-known8 .before .before .before .before .before .before in
+    let at-slice-known4 = at-run .before .before .before .before .before in
+    let asked = at-slice-known4 .before .before .before .before .before .pre in
+    let same = at-run .run .kept .1 in
+    (ended (asked .0) (same .0) (same .1 .0) (same .1 .1 .0) (at-run .run .ensures), asked .1)
 
 same-length : tie.Need-same-length
 same-length c = search needs

@@ -18,8 +18,8 @@ abbrev μ-loop : tie.MeasureT-loop
 
 loop-holds : tie.Need-loop-holds Inv-loop μ-loop
 loop-holds c =
-    let st = c .before .before .before .before .before .before in
-    (refl, emit-starts (st .args .b-table .now) (st .args .a-table .now) (st .pre .0))
+    let at-start = c .before .before .before .before .before .before in
+    (refl, emit-starts (at-start .args .b-table .now) (at-start .args .a-table .now) (at-start .pre .0))
 
 same-length : tie.Need-same-length Inv-loop μ-loop
 same-length c = omega arith
@@ -38,10 +38,12 @@ pop-requires c κs = emit-height (c .before .before .before .loop .inv .1)
 
 descend-requires : tie.Need-descend-requires Inv-loop μ-loop
 descend-requires c κs =
-    let p = c .before .pop in
-    let turn = c .before .before .before .before in
-    let sizes = turn .before .before .before .before .before .before .before .before .pre .0 .scratch in
-    emit-standing (turn .before .loop .inv .1) (p .result .tree) (p .result .height) (sizes .lefts-length)
+    let at-pop = c .before in
+    let at-loop = at-pop .before .before .before .before in
+    let at-slice-known = at-loop .before .before .before in
+    let sizes = at-slice-known .before .before .before .before .pre .0 .scratch in
+    let p = at-pop .pop in
+    emit-standing (at-loop .loop .inv .1) (p .result .tree) (p .result .height) (sizes .lefts-length)
     (sizes .rights-length) (p .ensures)
 
 mul-b-table : tie.Need-mul-b-table Inv-loop μ-loop
@@ -64,12 +66,15 @@ loop-less c = omega arith
 
 loop-again : tie.Need-loop-again Inv-loop μ-loop
 loop-again c =
-    let p = c .before .before .before .before .pop in
-    let d = c .before .before .descend in
-    let leaf = d .result in
-    let turn = c .before .before .before .before .before .before .before in
-    let inv = turn .before .loop .inv in
-    let asked = turn .before .before .before .before .before .before .before .before .pre in (
+    let at-descend = c .before .before in
+    let at-pop = at-descend .before .before in
+    let at-loop = at-pop .before .before .before .before in
+    let at-slice-known = at-loop .before .before .before in
+    let asked = at-slice-known .before .before .before .before .pre in
+    let inv = at-loop .loop .inv in
+    let p = at-pop .pop in
+    let d = at-descend .descend in
+    let leaf = d .result in (
       inv .0,
       emit-more (inv .1) (p .result .tree) (p .result .height) (d .last .1 .1 .0) (leaf .edges) (leaf .exponent)
           (leaf .height) (omega arith) (asked .1) (d .kept .1 .1 .0) (p .ensures) (d .ensures),

@@ -7,23 +7,29 @@ use Rattle.forest.proofs.Zeroing.{levels-tabled}
 use Rattle.forest.proofs.leaves.read_off.Statement.{statement}
 use Rattle.forest.proofs.leaves.read_off.Tie as tie
 
+-- The start, seen from where the first tree goes onto the stack.
+abbrev start : tie.After-push-arg → tie.Start
+start c =
+    let at-slice-known = c .before .before .before in
+    at-slice-known .before .before .before .before
+
 push-requires : tie.Need-push-requires
-push-requires c κs = omega (arith, low-height (c .before .before .before .before .before .before .before .pre .0))
+push-requires c κs = omega (arith, low-height (start c .pre .0))
 
 push-requires-2 : tie.Need-push-requires-2
 push-requires-2 c κs =
-    let one = c .before .before .before in
-    let asked = one .before .before .before .before .before .before .before .before .pre in
-    omega (arith, low-height (asked .0), one .push .ensures .high)
+    let at-push = c .before .before .before in
+    let asked = start (at-push .before) .pre in
+    omega (arith, low-height (asked .0), at-push .push .ensures .high)
 
 read-leaves-requires : tie.Need-read-leaves-requires
 read-leaves-requires c κs =
-    let two = c .before .before .before .before .before in
-    let one = two .before .before .before .before in
-    let asked = one .before .before .before .before .before .before .before .before .pre in (
-      ended-piled (asked .0) (one .push .kept .0) (two .push2 .kept .0) (one .push .ensures) (two .push2 .ensures),
-      asked .1,
-    )
+    let at-push2 = c .before .before .before .before .before in
+    let at-push = at-push2 .before .before .before .before in
+    let asked = start (at-push .before) .pre in
+    let one = at-push .push in
+    let two = at-push2 .push2 in
+    (ended-piled (asked .0) (one .kept .0) (two .kept .0) (one .ensures) (two .ensures), asked .1)
 
 add-end : tie.Need-add-end
 add-end c = search needs
@@ -45,12 +51,15 @@ same-length-3 c = search needs
 
 returns : tie.Need-returns
 returns c =
-    let zero-a = c .before .before in
-    let zero-b = zero-a .before .before .before .before in
-    let read = zero-b .before .before .before .before .before .before .before .before in
-    let one = read .before .before .before .before .before .before .before .before .before .before in
-    let asked = one .before .before .before .before .before .before .before .before .pre in
-    levels-tabled (asked .1) (read .read-leaves .ensures) (zero-b .zero-rest .ensures) (zero-a .zero-rest2 .ensures)
+    let at-zero-rest2 = c .before .before in
+    let at-zero-rest = at-zero-rest2 .before .before .before .before in
+    let at-b-table = at-zero-rest .before .before .before .before .before in
+    let at-read-leaves = at-b-table .before .before .before in
+    let at-push2 = at-read-leaves .before .before .before .before .before .before in
+    let at-push = at-push2 .before .before .before .before in
+    let asked = start (at-push .before) .pre in
+    levels-tabled (asked .1) (at-read-leaves .read-leaves .ensures) (at-zero-rest .zero-rest .ensures)
+    (at-zero-rest2 .zero-rest2 .ensures)
 
 pub read-off-spec : {M : Type 1} → statement M
 read-off-spec =

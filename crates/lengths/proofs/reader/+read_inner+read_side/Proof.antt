@@ -72,17 +72,16 @@ read-inner-side-class-requires t c κs = tt
 
 read-inner-slice-write-classes : (t : ℕ)
     → read-inner-lts.Need-slice-write-classes (read-inner-calls t) (read-inner-at t) read-inner.Post
-read-inner-slice-write-classes t c = side-room (c .before .before .before .before .before .before .before .before
-    .args .lefts) (c .before .before .before .before .before .before .before .before .pre .1) (c .before .before
-    .before .before .read-subtree .ensures)
+read-inner-slice-write-classes t c =
+    let at-read-subtree = c .before .before .before .before in
+    let at-start = at-read-subtree .before .before .before .before in
+    side-room (at-start .args .lefts) (at-start .pre .1) (at-read-subtree .read-subtree .ensures)
 
 read-inner-add-t13 : (t : ℕ) → read-inner-lts.Need-add-t13 (read-inner-calls t) (read-inner-at t) read-inner.Post
-read-inner-add-t13 t c = omega (
-  arith,
-  side-small (c .before .before .before .before .before .before .before .before
-      .before .args .lefts) (c .before .before .before .before .before .before .before .before .before .pre .1) (c
-      .before .before .before .before .before .read-subtree .ensures),
-)
+read-inner-add-t13 t c =
+    let at-read-subtree = c .before .before .before .before .before in
+    let at-start = at-read-subtree .before .before .before .before in
+    omega (arith, side-small (at-start .args .lefts) (at-start .pre .1) (at-read-subtree .read-subtree .ensures))
 
 read-inner-fewer-requires : (t : ℕ)
     → read-inner-lts.Need-fewer-requires (read-inner-calls t) (read-inner-at t) read-inner.Post
@@ -90,36 +89,36 @@ read-inner-fewer-requires t c κs = tt
 
 read-inner-read-side-requires : (t : ℕ)
     → read-inner-lts.Need-read-side-requires (read-inner-calls t) (read-inner-at t) read-inner.Post
-read-inner-read-side-requires t c κs = (
-  omega (
-    arith,
-    c .before .before .before .before .before .before .before .before .before .before .before .pre .0,
-    side-falls (c .before .before .before .before .before .before .before .before .before .before .before .args
-        .lefts) (c .before .before .before .before .before .before .before .before .before .before .before .pre .1) (c
-        .before .before .before .before .before .before .before .read-subtree .ensures),
-  ),
-  side-next (c .before .before .before .before .before .before .before .before .before .before .before .args .lefts)
-      (c .before .before .before .before .before .before .before .before .before .before .before .pre .1) (c .before
-      .before .before .before .before .before .before .read-subtree .ensures) _ _ (c .before .fewer .ensures),
-)
+read-inner-read-side-requires t c κs =
+    let at-fewer = c .before in
+    let at-read-subtree = at-fewer .before .before .before .before .before .before in
+    let at-start = at-read-subtree .before .before .before .before in
+    let lefts = at-start .args .lefts in
+    let readable = at-start .pre .1 in
+    let read = at-read-subtree .read-subtree .ensures in (
+      omega (arith, at-start .pre .0, side-falls lefts readable read),
+      side-next lefts readable read _ _ (at-fewer .fewer .ensures),
+    )
 
 read-inner-same-length : (t : ℕ)
     → read-inner-lts.Need-same-length (read-inner-calls t) (read-inner-at t) read-inner.Post
 read-inner-same-length t c =
-    c .before .before .read-side .kept .1 .1 .1 .1 .0
-    ∙ length-set (c .before .before .before .before .before .before .before .before .before .before .read-subtree
-    .last .1 .1 .1 .0) (c .before .before .before .before .before .before .before .before .before .before
-    .read-subtree .result .caret .0) (c .before .before .before .before .before .before .side-class .result)
-    ∙ c .before .before .before .before .before .before .before .before .before .before .read-subtree .kept .1 .1 .1 .0
+    let at-read-side = c .before .before in
+    let at-side-class = at-read-side .before .before .before .before in
+    let read = at-side-class .before .before .before .before .read-subtree in
+    at-read-side .read-side .kept .1 .1 .1 .1 .0
+    ∙ length-set (read .last .1 .1 .1 .0) (read .result .caret .0) (at-side-class .side-class .result)
+    ∙ read .kept .1 .1 .1 .0
 
 read-inner-returns : (t : ℕ) → read-inner-lts.Need-returns (read-inner-calls t) (read-inner-at t) read-inner.Post
 read-inner-returns t c =
-    inner-written (c .before .before .before .before .before .before .before .before .before .before .before .before
-    .before .before .args .lefts) (c .before .before .before .before .before .before .before .before .before
-    .before .before .before .before .before .pre .1) (c .before .before .before .before .before .before .before
-    .before .before .before .read-subtree .ensures) _ _ (c .before .before .before .before .before .before
-    .side-class .ensures)
-    (c .before .before .before .before .fewer .ensures) (c .before .before .read-side .ensures)
+    let at-read-side = c .before .before in
+    let at-fewer = at-read-side .before .before in
+    let at-side-class = at-fewer .before .before in
+    let at-read-subtree = at-side-class .before .before .before .before in
+    let at-start = at-read-subtree .before .before .before .before in
+    inner-written (at-start .args .lefts) (at-start .pre .1) (at-read-subtree .read-subtree .ensures) _ _
+    (at-side-class .side-class .ensures) (at-fewer .fewer .ensures) (at-read-side .read-side .ensures)
 
 -- What `read_side` calls.
 abbrev read-side-calls : ℕ → read-side-lts.Claims
@@ -127,11 +126,10 @@ read-side-calls t = (read-inner-below t, read-inner.Post)
 
 read-side-read-inner-requires : (t : ℕ)
     → read-side-lts.Need-read-inner-requires (read-side-calls t) (read-side-at t) read-side.Post
-read-side-read-inner-requires t c κs = (
-  omega (arith, c .before .before .before .before .pre .0),
-  left-ready (c .before .before .before .before .pre .1)
-      (c .before .if1 .taken),
-)
+read-side-read-inner-requires t c κs =
+    let at-if1 = c .before in
+    let at-start = at-if1 .before .before .before in
+    (omega (arith, at-start .pre .0), left-ready (at-start .pre .1) (at-if1 .if1 .taken))
 
 read-side-same-length : (t : ℕ) → read-side-lts.Need-same-length (read-side-calls t) (read-side-at t) read-side.Post
 read-side-same-length t c = c .before .before .read-inner .kept .1 .1 .1 .1 .0
@@ -143,36 +141,36 @@ read-side-returns :
     (read-side-at t)
     read-side.Post
 read-side-returns t c =
-    let args = c .before .before .before .before .before .before .before .args in
-    c .before .before .read-inner .ensures
+    let at-read-inner = c .before .before in
+    let at-if1 = at-read-inner .before .before in
+    let args = at-if1 .before .before .before .args in
+    at-read-inner .read-inner .ensures
     ∙ ap (λ (cs : List Class). sets (args .classes .now) (args .caret .0) (classBytes cs))
-    (left-classes (drop (args .at) (args .shape .now)) (args .lefts) (c .before .before .before .before .if1 .taken))
+    (left-classes (drop (args .at) (args .shape .now)) (args .lefts) (at-if1 .if1 .taken))
 
 read-side-shared-slice-read-if2 : (t : ℕ)
     → read-side-lts.Need-shared-slice-read-if2 (read-side-calls t) (read-side-at t) read-side.Post
-read-side-shared-slice-read-if2 t c = right-there (c .before .before .before .before .pre .1) (c .before .if1 .left)
+read-side-shared-slice-read-if2 t c =
+    let at-if1 = c .before in
+    let at-start = at-if1 .before .before .before in
+    right-there (at-start .pre .1) (at-if1 .if1 .left)
 
 read-side-add-read-inner : (t : ℕ)
     → read-side-lts.Need-add-read-inner (read-side-calls t) (read-side-at t) read-side.Post
-read-side-add-read-inner t c = omega (
-  arith,
-  right-there (c .before .before .before .before .before .pre .1) (c
-      .before .before .if1 .left),
-  c .before .before .before .before .before .good,
-)
+read-side-add-read-inner t c =
+    let at-if1 = c .before .before in
+    let at-start = at-if1 .before .before .before in
+    omega (arith, right-there (at-start .pre .1) (at-if1 .if1 .left), at-start .good)
 
 read-side-read-inner-requires-2 : (t : ℕ)
     → read-side-lts.Need-read-inner-requires-2 (read-side-calls t) (read-side-at t) read-side.Post
-read-side-read-inner-requires-2 t c κs = (
-  omega (
-    arith,
-    c .before .before .before .before .before .before .pre .0,
-    right-there (c .before .before .before
-        .before .before .before .pre .1) (c .before .before .before .if1 .left),
-  ),
-  right-ready (c .before .before .before .before .before .before .pre .1) (c .before .before .before .if1 .left) (c
-      .before .if2 .taken),
-)
+read-side-read-inner-requires-2 t c κs =
+    let at-if2 = c .before in
+    let at-if1 = at-if2 .before .before in
+    let at-start = at-if1 .before .before .before in (
+      omega (arith, at-start .pre .0, right-there (at-start .pre .1) (at-if1 .if1 .left)),
+      right-ready (at-start .pre .1) (at-if1 .if1 .left) (at-if2 .if2 .taken),
+    )
 
 read-side-same-length-2 : (t : ℕ) → read-side-lts.Need-same-length-2 (read-side-calls t) (read-side-at t) read-side.Post
 read-side-same-length-2 t c = c .before .before .read-inner2 .kept .1 .1 .1 .1 .0
@@ -184,11 +182,14 @@ read-side-returns-2 :
     (read-side-at t)
     read-side.Post
 read-side-returns-2 t c =
-    let args = c .before .before .before .before .before .before .before .before .before .args in
-    c .before .before .read-inner2 .ensures
+    let at-read-inner2 = c .before .before in
+    let at-if2 = at-read-inner2 .before .before in
+    let at-if1 = at-if2 .before .before in
+    let at-start = at-if1 .before .before .before in
+    let args = at-start .args in
+    at-read-inner2 .read-inner2 .ensures
     ∙ ap (λ (cs : List Class). sets (args .classes .now) (args .caret .0) (classBytes cs))
-    (right-classes (c .before .before .before .before .before .before .before .before .before .pre .1) (c .before
-    .before .before .before .before .before .if1 .left) (c .before .before .before .before .if2 .taken))
+    (right-classes (at-start .pre .1) (at-if1 .if1 .left) (at-if2 .if2 .taken))
 
 read-side-returns-3 :
     (t : ℕ) →
@@ -197,9 +198,11 @@ read-side-returns-3 :
     (read-side-at t)
     read-side.Post
 read-side-returns-3 t c =
-    let args = c .before .before .before .before .before .args in
+    let at-if1 = c .before .before in
+    let at-start = at-if1 .before .before .before in
+    let args = at-start .args in
     sym (ap (λ (cs : List Class). sets (args .classes .now) (args .caret .0) (classBytes cs))
-    (last-classes (c .before .before .before .before .before .pre .1) (c .before .before .if1 .left) (c .if2 .left)))
+    (last-classes (at-start .pre .1) (at-if1 .if1 .left) (c .if2 .left)))
 
 pub +read-inner+read-side-spec : {M : Type 1} → statement M
 +read-inner+read-side-spec = close μ-read-inner μ-read-side (λ t. read-inner-lts.spec (read-inner-calls t)

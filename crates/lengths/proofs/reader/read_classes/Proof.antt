@@ -10,8 +10,10 @@ left-edge-requires : tie.Need-left-edge-requires
 left-edge-requires c κs = search needs
 
 slice-write-classes : tie.Need-slice-write-classes
-slice-write-classes c = first-room (c .before .before .before .before .pre) _ (c .before .left-edge .ensures .0) (c
-    .if1 .taken)
+slice-write-classes c =
+    let at-left-edge = c .before in
+    let at-start = at-left-edge .before .before .before in
+    first-room (at-start .pre) _ (at-left-edge .left-edge .ensures .0) (c .if1 .taken)
 
 add-read-side : tie.Need-add-read-side
 add-read-side c = search needs
@@ -20,21 +22,32 @@ sub-read-side : tie.Need-sub-read-side
 sub-read-side c = search needs
 
 read-side-requires : tie.Need-read-side-requires
-read-side-requires c κs = side-ready (c .before .before .before .before .before .pre) _ (c .before .before .left-edge
-    .ensures .0) (c .before .if1 .taken)
+read-side-requires c κs =
+    let at-if1 = c .before in
+    let at-left-edge = at-if1 .before in
+    let at-start = at-left-edge .before .before .before in
+    side-ready (at-start .pre) _ (at-left-edge .left-edge .ensures .0) (at-if1 .if1 .taken)
 
 same-length : tie.Need-same-length
-same-length c = c .before .before .read-side .kept .1 .1 .1 .1 .0 ∙ length-set (c .before .before .before .before
-    .before .before .before .before .args .classes .now) 0 0
+same-length c =
+    let at-read-side = c .before .before in
+    let at-start = at-read-side .before .before .before .before .before .before in
+    at-read-side .read-side .kept .1 .1 .1 .1 .0 ∙ length-set (at-start .args .classes .now) 0 0
 
 returns : tie.Need-returns
 returns c =
-    side-written (c .before .before .before .before .before .before .before .before .pre) _ (c .before .before .before
-    .before .before .left-edge .ensures .0) (c .before .before .before .before .if1 .taken) (c .before .before
-    .read-side .ensures)
+    let at-read-side = c .before .before in
+    let at-if1 = at-read-side .before .before in
+    let at-left-edge = at-if1 .before in
+    let at-start = at-left-edge .before .before .before in
+    side-written (at-start .pre) _ (at-left-edge .left-edge .ensures .0) (at-if1 .if1 .taken)
+    (at-read-side .read-side .ensures)
 
 returns-2 : tie.Need-returns-2
-returns-2 c = no-carets (c .before .before .before .before .pre) _ (c .before .left-edge .ensures .0) (c .if1 .left)
+returns-2 c =
+    let at-left-edge = c .before in
+    let at-start = at-left-edge .before .before .before in
+    no-carets (at-start .pre) _ (at-left-edge .left-edge .ensures .0) (c .if1 .left)
 
 pub read-classes-spec : {M : Type 1} → statement M
 read-classes-spec =

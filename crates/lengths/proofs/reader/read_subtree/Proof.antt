@@ -19,31 +19,34 @@ loop-holds : tie.Need-loop-holds Inv-loop μ-loop
 loop-holds c = amidst-start _ _ _ _
 
 read-node-requires : tie.Need-read-node-requires Inv-loop μ-loop
-read-node-requires c κs = amidst-ready (c .before .before .loop .inv) (c .before .before .before .before .before .pre)
-    (c .before .loop-test .taken)
+read-node-requires c κs =
+    let at-loop-test = c .before in
+    let at-loop = at-loop-test .before in
+    let at-start = at-loop .before .before .before in
+    amidst-ready (at-loop .loop .inv) (at-start .pre) (at-loop-test .loop-test .taken)
 
 add-p : tie.Need-add-p Inv-loop μ-loop
 add-p c =
-    omega (
-      arith,
-      node-there (amidst-ready (c .before .before .before .before .before .loop .inv) (c .before .before .before
-          .before .before .before .before .before .pre) (c .before .before .before .before .loop-test .taken)
-          .readable) (omega arith),
-      c .before .before .before .before .before .before .before .before .good,
-    )
+    let at-loop-test = c .before .before .before .before in
+    let at-loop = at-loop-test .before in
+    let at-start = at-loop .before .before .before in
+    let ready = amidst-ready (at-loop .loop .inv) (at-start .pre) (at-loop-test .loop-test .taken) in
+    omega (arith, node-there (ready .readable) (omega arith), at-start .good)
 
 loop-less : tie.Need-loop-less Inv-loop μ-loop
 loop-less c =
-    omega (
-      arith,
-      node-there (amidst-ready (c .before .before .before .before .before .loop .inv) (c .before .before .before
-          .before .before .before .before .before .pre) (c .before .before .before .before .loop-test .taken)
-          .readable) (omega arith),
-    )
+    let at-loop-test = c .before .before .before .before in
+    let at-loop = at-loop-test .before in
+    let at-start = at-loop .before .before .before in
+    let ready = amidst-ready (at-loop .loop .inv) (at-start .pre) (at-loop-test .loop-test .taken) in
+    omega (arith, node-there (ready .readable) (omega arith))
 
 loop-again : tie.Need-loop-again Inv-loop μ-loop
-loop-again c = amidst-more (c .before .before .before .before .before .loop .inv) (c .before .before .before .before
-    .loop-test .taken) (c .before .before .read-node .ensures)
+loop-again c =
+    let at-read-node = c .before .before in
+    let at-loop-test = at-read-node .before .before in
+    let at-loop = at-loop-test .before in
+    amidst-more (at-loop .loop .inv) (at-loop-test .loop-test .taken) (at-read-node .read-node .ensures)
 
 same-length : tie.Need-same-length Inv-loop μ-loop
 same-length c = writing-length (c .before .loop .inv .writing 0)

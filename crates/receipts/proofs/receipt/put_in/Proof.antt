@@ -29,10 +29,14 @@ add-entries c = search needs
 
 -- The call that read the line, seen from where its record is at hand.
 abbrev call : tie.After-written2 → tie.After-word-to-record
-call c = c .before .before .before .before .before .before .before .before
+call c =
+    let at-a = c .before .before .before .before .before in
+    at-a .before .before .before
 
 abbrev start : tie.After-word-to-record → tie.Start
-start c = c .before .before .before .before .before .before .before .before .before
+start c =
+    let at-word-to-record-arg = c .before .before .before in
+    at-word-to-record-arg .before .before .before .before .before .before
 
 -- The line is a word, within the limit.
 few : (c : tie.After-written2) → length (start (call c) .args .line .now) ≤ limit
@@ -48,28 +52,39 @@ short c =
 
 slice-reshare-prefix-put-tables : tie.Need-slice-reshare-prefix-put-tables
 slice-reshare-prefix-put-tables c =
-    let known = c .before in
-    omega (arith, start (call known) .pre .0 .b-long (few known), call known .word-to-record .kept)
+    let at-written2 = c .before in
+    let at-word-to-record = call at-written2 in
+    omega (
+      arith,
+      start at-word-to-record .pre .0 .b-long (few at-written2),
+      at-word-to-record .word-to-record .kept,
+    )
 
 slice-aggregate-put-tables : tie.Need-slice-aggregate-put-tables
 slice-aggregate-put-tables c = sym (length-take-le _ _ (slice-reshare-prefix-put-tables (c .before)))
 
 slice-reshare-prefix-put-tables-2 : tie.Need-slice-reshare-prefix-put-tables-2
 slice-reshare-prefix-put-tables-2 c =
-    let known = c .before .before in
-    omega (arith, start (call known) .pre .0 .a-long (few known), call known .word-to-record .kept)
+    let at-written2 = c .before .before in
+    let at-word-to-record = call at-written2 in
+    omega (
+      arith,
+      start at-word-to-record .pre .0 .a-long (few at-written2),
+      at-word-to-record .word-to-record .kept,
+    )
 
 slice-aggregate-put-tables-2 : tie.Need-slice-aggregate-put-tables-2
 slice-aggregate-put-tables-2 c = sym (length-take-le _ _ (slice-reshare-prefix-put-tables-2 (c .before)))
 
 slice-reshare-prefix-put-tables-3 : tie.Need-slice-reshare-prefix-put-tables-3
 slice-reshare-prefix-put-tables-3 c =
-    let known = c .before .before .before in
+    let at-written2 = c .before .before .before in
+    let at-word-to-record = call at-written2 in
     omega (
       arith,
-      start (call known) .pre .0 .buffer-long (few known),
-      short known,
-      call known .word-to-record .kept,
+      start at-word-to-record .pre .0 .buffer-long (few at-written2),
+      short at-written2,
+      at-word-to-record .word-to-record .kept,
     )
 
 slice-aggregate-put-tables-3 : tie.Need-slice-aggregate-put-tables-3
@@ -77,12 +92,13 @@ slice-aggregate-put-tables-3 c = sym (length-take-le _ _ (slice-reshare-prefix-p
 
 put-tables-requires : tie.Need-put-tables-requires
 put-tables-requires c κs =
-    let known = c .before .before .before .before .before in
+    let at-written2 = c .before .before .before .before .before in
+    let at-word-to-record = call at-written2 in
     omega (
       arith,
-      length-take (known .written2 .given .0 .0) (call known .word-to-record .last .1 .1 .1 .0),
-      short known,
-      start (call known) .pre .1,
+      length-take (at-written2 .written2 .given .0 .0) (at-word-to-record .word-to-record .last .1 .1 .1 .0),
+      short at-written2,
+      start at-word-to-record .pre .1,
     )
 
 same-length : tie.Need-same-length
@@ -99,13 +115,15 @@ same-length-4 c = search needs
 
 returns : tie.Need-returns
 returns c =
-    let put = c .before .before in
-    let known = put .before .before .before in
-    let read = known .before .before .before .before .before .before .before .before in
+    let at-put-refusal = c .before .before in
+    let at-written = at-put-refusal .before .before .before in
+    let at-a = at-written .before .before .before .before .before in
+    let at-word-to-record = at-a .before .before .before in
+    let at-start = start at-word-to-record in
     wrote-same
-    (receipt-refused (start read .pre .0) (read .word-to-record .ensures) (known .written .given .0 .0)
-    (start read .args .number) (known .written .given .1))
-    (put .put-refusal .ensures)
+    (receipt-refused (at-start .pre .0) (at-word-to-record .word-to-record .ensures) (at-written .written .given .0 .0)
+    (at-start .args .number) (at-written .written .given .1))
+    (at-put-refusal .put-refusal .ensures)
 
 same-length-5 : tie.Need-same-length-5
 same-length-5 c = search needs
@@ -121,13 +139,14 @@ same-length-8 c = search needs
 
 returns-2 : tie.Need-returns-2
 returns-2 c =
-    let put = c .before .before in
-    let known = put .before .before .before .before .before .before in
-    let read = call known .word-to-record .ensures in
+    let at-put-tables = c .before .before in
+    let at-written2 = at-put-tables .before .before .before .before .before .before in
+    let at-word-to-record = call at-written2 in
+    let at-start = start at-word-to-record in
     wrote-same
-    (receipt-row (start (call known) .pre .0) read (known .written2 .given .0 .0) (known .written2 .given .1)
-    (start (call known) .args .number))
-    (put .put-tables .ensures)
+    (receipt-row (at-start .pre .0) (at-word-to-record .word-to-record .ensures) (at-written2 .written2 .given .0 .0)
+    (at-written2 .written2 .given .1) (at-start .args .number))
+    (at-put-tables .put-tables .ensures)
 
 pub put-in-spec : {M : Type 1} → statement M
 put-in-spec =

@@ -29,28 +29,37 @@ returns-2 : tie.Need-returns-2
 returns-2 c = search needs
 
 returns-3 : tie.Need-returns-3
-returns-3 c = framed-not-ended (c .before .before .before .before .before .before .before .args .end)
-    (c .before .before .before .before .before .before .before .args .length)
-    (c .before .before .before .before .before .b .given .1) (c .before .before .a .given .1) (λ e. omega (arith, e))
+returns-3 c =
+    let at-a = c .before .before in
+    let at-b = at-a .before .before .before in
+    let args = at-b .before .before .args in
+    framed-not-ended (args .end) (args .length) (at-b .b .given .1) (at-a .a .given .1) (λ e. omega (arith, e))
 
 returns-4 : tie.Need-returns-4
-returns-4 c = framed-first-broken (c .before .before .before .before .before .before .before .before .args .end)
-    (c .before .before .before .before .before .before .before .before .args .length)
-    (c .before .before .before .before .before .before .b .given .1) (c .before .before .before .a .given .1)
-    (omega arith) (c .if2 .taken)
+returns-4 c =
+    let at-a = c .before .before .before in
+    let at-b = at-a .before .before .before in
+    let args = at-b .before .before .args in
+    framed-first-broken (args .end) (args .length) (at-b .b .given .1) (at-a .a .given .1) (omega arith)
+    (c .if2 .taken)
 
 returns-5 : tie.Need-returns-5
-returns-5 c = framed-second-broken
-    (c .before .before .before .before .before .before .before .before .before .args .end)
-    (c .before .before .before .before .before .before .before .before .before .args .length)
-    (c .before .before .before .before .before .before .before .b .given .1)
-    (c .before .before .before .before .a .given .1) (omega arith) (c .before .if2 .left) (c .if3 .taken)
+returns-5 c =
+    let at-if2 = c .before in
+    let at-a = at-if2 .before .before .before in
+    let at-b = at-a .before .before .before in
+    let args = at-b .before .before .args in
+    framed-second-broken (args .end) (args .length) (at-b .b .given .1) (at-a .a .given .1) (omega arith)
+    (at-if2 .if2 .left) (c .if3 .taken)
 
 returns-6 : tie.Need-returns-6
-returns-6 c = framed-exact (c .before .before .before .before .before .before .before .before .before .args .end)
-    (c .before .before .before .before .before .before .before .before .before .args .length)
-    (c .before .before .before .before .before .before .before .b .given .1)
-    (c .before .before .before .before .a .given .1) (omega arith) (c .before .if2 .left) (c .if3 .left)
+returns-6 c =
+    let at-if2 = c .before in
+    let at-a = at-if2 .before .before .before in
+    let at-b = at-a .before .before .before in
+    let args = at-b .before .before .args in
+    framed-exact (args .end) (args .length) (at-b .b .given .1) (at-a .a .given .1) (omega arith)
+    (at-if2 .if2 .left) (c .if3 .left)
 
 pub frame-of-spec : {M : Type 1} → statement M
 frame-of-spec =

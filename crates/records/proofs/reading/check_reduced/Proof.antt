@@ -24,9 +24,10 @@ first-break-requires c κs = search needs
 
 returns : tie.Need-returns
 returns c =
-    let done = c .before .before .before .before .before .fill-fields .ensures in
-    reduced-by (c .before .before .before .before .before .before .before .before .before .args .s .now) _ _ (c
-    .first-break .result) (done .b-table) (done .a-table) (c .first-break .ensures)
+    let at-fill-fields = c .before .before .before .before .before in
+    let args = at-fill-fields .before .before .before .before .args in
+    let done = at-fill-fields .fill-fields .ensures in
+    reduced-by (args .s .now) _ _ (c .first-break .result) (done .b-table) (done .a-table) (c .first-break .ensures)
 
 pub check-reduced-spec : {M : Type 1} → statement M
 check-reduced-spec =

@@ -17,12 +17,14 @@ enum-told : tie.Need-enum-told
 enum-told c = search needs
 
 returns : tie.Need-returns
-returns c = ap (λ (o : Outcome ℕ). checked o) (sym (ap scanOf (c .before .second .given .1)) ∙ c .before .before
-    .before .scan-field .ensures)
+returns c =
+    ap (λ (o : Outcome ℕ). checked o)
+    (sym (ap scanOf (c .before .second .given .1)) ∙ c .before .before .before .scan-field .ensures)
 
 returns-2 : tie.Need-returns-2
-returns-2 c = ap (λ (o : Outcome ℕ). checked o) (sym (ap scanOf (c .enum-told .given .1)) ∙ c .before .before
-    .scan-field .ensures)
+returns-2 c =
+    ap (λ (o : Outcome ℕ). checked o)
+    (sym (ap scanOf (c .enum-told .given .1)) ∙ c .before .before .scan-field .ensures)
 
 pub check-second-spec : {M : Type 1} → statement M
 check-second-spec =

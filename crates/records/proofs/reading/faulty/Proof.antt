@@ -14,8 +14,7 @@ returns-3 : tie.Need-returns-3
 returns-3 c = simp (
   ne-eqb _ _ (c .before .before .if1 .left),
   le-ltb _ _ (c .before .if2 .left),
-  lt-ltb _ _ (c .if3
-      .taken),
+  lt-ltb _ _ (c .if3 .taken),
 )
 
 add-result : tie.Need-add-result
@@ -25,8 +24,7 @@ returns-4 : tie.Need-returns-4
 returns-4 c = simp (
   ne-eqb _ _ (c .before .before .if1 .left),
   le-ltb _ _ (c .before .if2 .left),
-  le-ltb _ _ (c .if3
-      .left),
+  le-ltb _ _ (c .if3 .left),
 )
 
 pub faulty-spec : {M : Type 1} → statement M

@@ -6,21 +6,23 @@ use Rattle.records.proofs.reading.fill_fields.Statement.{statement}
 use Rattle.records.proofs.reading.fill_fields.Tie as tie
 
 fill-table-requires : tie.Need-fill-table-requires
-fill-table-requires c κs = let h = ordered-first (c .before .before .before .before .pre .0) in (
-  h .0,
-  (
-    c .before
-        .before .before .before .pre .1 .0,
-    h .1,
-  ),
-)
+fill-table-requires c κs =
+    let asked = c .before .before .before .before .pre in
+    let first = ordered-first (asked .0) in
+    (first .0, (asked .1 .0, first .1))
 
 add-fill-table : tie.Need-add-fill-table
-add-fill-table c = omega (arith, ordered-second (c .before .before .before .before .before .before .before .pre .0) .0)
+add-fill-table c =
+    let at-fill-table = c .before .before in
+    let asked = at-fill-table .before .before .before .before .before .pre in
+    omega (arith, ordered-second (asked .0) .0)
 
 fill-table-requires-2 : tie.Need-fill-table-requires-2
-fill-table-requires-2 c κs = let h = ordered-second (c .before .before .before .before .before .before .before .before
-    .pre .0) in (h .0, (c .before .before .before .before .before .before .before .before .pre .1 .1, h .1))
+fill-table-requires-2 c κs =
+    let at-fill-table = c .before .before .before in
+    let asked = at-fill-table .before .before .before .before .before .pre in
+    let second = ordered-second (asked .0) in
+    (second .0, (asked .1 .1, second .1))
 
 same-length : tie.Need-same-length
 same-length c = c .before .before .before .before .before .before .fill-table .kept .1 .1 .1 .0
@@ -30,11 +32,13 @@ same-length-2 c = c .before .before .fill-table2 .kept .1 .1 .1 .0
 
 returns : tie.Need-returns
 returns c =
-    let start = c .before .before .before .before .before .before .before .before .before .before .before in
-    let first = c .before .before .before .before .before .before .fill-table .ensures in
+    let at-fill-table2 = c .before .before in
+    let at-fill-table = at-fill-table2 .before .before .before .before in
+    let at-start = at-fill-table .before .before .before .before .before in
+    let tables = ordered-tables (at-start .pre .0) in
     record {
-      b-table = first ∙ ordered-tables (start .pre .0) (start .args .b-table .now) .0;
-      a-table = c .before .before .fill-table2 .ensures ∙ ordered-tables (start .pre .0) (start .args .a-table .now) .1;
+      b-table = at-fill-table .fill-table .ensures ∙ tables (at-start .args .b-table .now) .0;
+      a-table = at-fill-table2 .fill-table2 .ensures ∙ tables (at-start .args .a-table .now) .1;
     }
 
 pub fill-fields-spec : {M : Type 1} → statement M

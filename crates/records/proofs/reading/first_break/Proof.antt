@@ -53,9 +53,12 @@ cast-t20 : tie.Need-cast-t20 Inv-loop μ-loop
 cast-t20 c = omega arith
 
 returns : tie.Need-returns Inv-loop μ-loop
-returns c = λ f h. break-here (c .before .before .before .before .before .before .before .loop .inv .1) f h (omega
-    (arith, c .before .before .before .before .before .before .loop-test .taken)) (sym (c .if1 .taken) ∙ c .before
-    .breaks .ensures)
+returns c =
+    let at-breaks = c .before in
+    let at-loop-test = at-breaks .before .before .before .before .before in
+    let at-loop = at-loop-test .before in
+    λ f h. break-here (at-loop .loop .inv .1) f h (omega (arith, at-loop-test .loop-test .taken))
+    (sym (c .if1 .taken) ∙ at-breaks .breaks .ensures)
 
 add-i : tie.Need-add-i Inv-loop μ-loop
 add-i c = omega arith
@@ -64,14 +67,17 @@ loop-less : tie.Need-loop-less Inv-loop μ-loop
 loop-less c = omega arith
 
 loop-again : tie.Need-loop-again Inv-loop μ-loop
-loop-again c = (
-  omega arith,
-  record {
-    goes-on = λ f h. break-later (c .before .before .before .before .before .before
-        .before .loop .inv .1) f h (omega (arith, c .before .before .before .before .before .before .loop-test .taken))
-        (sym (c .if1 .left) ∙ c .before .breaks .ensures);
-  },
-)
+loop-again c =
+    let at-breaks = c .before in
+    let at-loop-test = at-breaks .before .before .before .before .before in
+    let at-loop = at-loop-test .before in
+    let goes-on = sym (c .if1 .left) ∙ at-breaks .breaks .ensures in (
+      omega arith,
+      record {
+        goes-on = λ f h.
+            break-later (at-loop .loop .inv .1) f h (omega (arith, at-loop-test .loop-test .taken)) goes-on;
+      },
+    )
 
 returns-2 : tie.Need-returns-2 Inv-loop μ-loop
 returns-2 c = λ f h. break-nowhere (c .before .loop .inv .1) f h (omega arith)

@@ -13,13 +13,9 @@ abbrev μ-loop : tie.MeasureT-loop
 μ-loop s start count table₀ at₀ left₀ table at left = left
 
 loop-holds : tie.Need-loop-holds Inv-loop μ-loop
-loop-holds c = record {
-  inside = c .before .before .pre .0;
-  proper = c .before .before .pre .1 .1;
-  same = refl;
-  goes-on
-      = refl;
-}
+loop-holds c =
+    let asked = c .before .before .pre in
+    record { inside = asked .0; proper = asked .1 .1; same = refl; goes-on = refl }
 
 number-at-requires : tie.Need-number-at-requires Inv-loop μ-loop
 number-at-requires c κs = omega (arith, c .before .loop .inv .inside)
@@ -37,18 +33,26 @@ mul-table : tie.Need-mul-table Inv-loop μ-loop
 mul-table c = omega (arith, c .before .number-at .ensures .1)
 
 slice-write-table : tie.Need-slice-write-table Inv-loop μ-loop
-slice-write-table c = omega (
-  arith,
-  placing-index (c .before .before .before .loop .inv) _ (c .before .number-at
-      .ensures .0) (c .before .before .loop-test .taken),
-  c .before .before .before .loop .inv .same,
-  c .before .before
-      .before .before .before .before .pre .1 .0,
-)
+slice-write-table c =
+    let at-number-at = c .before in
+    let at-loop-test = at-number-at .before in
+    let at-loop = at-loop-test .before in
+    let asked = at-loop .before .before .before .pre in
+    let inv = at-loop .loop .inv in
+    omega (
+      arith,
+      placing-index inv _ (at-number-at .number-at .ensures .0) (at-loop-test .loop-test .taken),
+      inv .same,
+      asked .1 .0,
+    )
 
 loop-again : tie.Need-loop-again Inv-loop μ-loop
-loop-again c = placing-more (c .before .before .before .loop .inv) _ _ (c .before .number-at .ensures .0) (c
-    .number-at2 .ensures .0) (c .before .before .loop-test .taken)
+loop-again c =
+    let at-number-at = c .before in
+    let at-loop-test = at-number-at .before in
+    let at-loop = at-loop-test .before in
+    placing-more (at-loop .loop .inv) _ _ (at-number-at .number-at .ensures .0) (c .number-at2 .ensures .0)
+    (at-loop-test .loop-test .taken)
 
 add-at : tie.Need-add-at Inv-loop μ-loop
 add-at c = omega (arith, loop-again c .inside)

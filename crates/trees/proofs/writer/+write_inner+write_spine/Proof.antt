@@ -54,19 +54,23 @@ write-inner-write-subtree-requires t c κs = c .before .before .before .pre .1
 write-inner-write-spine-requires : (t : ℕ)
     → write-inner-lts.Need-write-spine-requires (write-inner-calls t) (write-inner-at t) write-inner.Post
 write-inner-write-spine-requires t c κs =
-    let w = c .before .before .before .write-subtree .ensures in (
-      omega (arith, c .before .before .before .before .before .before .before .pre .0, w .writing .ends, w .on),
-      rest-room w (c .before .before .before .before .before .before .before .pre .1),
-    )
+    let at-write-subtree = c .before .before .before in
+    let asked = at-write-subtree .before .before .before .before .pre in
+    let w = at-write-subtree .write-subtree .ensures in
+    (omega (arith, asked .0, w .writing .ends, w .on), rest-room w (asked .1))
 
 write-inner-same-length : (t : ℕ)
     → write-inner-lts.Need-same-length (write-inner-calls t) (write-inner-at t) write-inner.Post
-write-inner-same-length t c = c .before .before .write-spine .kept .1 .1 .0 ∙ c .before .before .before .before
-    .before .before .write-subtree .kept .1 .1 .0
+write-inner-same-length t c =
+    let at-write-spine = c .before .before in
+    let at-write-subtree = at-write-spine .before .before .before .before in
+    at-write-spine .write-spine .kept .1 .1 .0 ∙ at-write-subtree .write-subtree .kept .1 .1 .0
 
 write-inner-returns : (t : ℕ) → write-inner-lts.Need-returns (write-inner-calls t) (write-inner-at t) write-inner.Post
-write-inner-returns t c = write-rest (c .before .before .before .before .before .before .write-subtree .ensures
-    .writing) (c .before .before .write-spine .ensures)
+write-inner-returns t c =
+    let at-write-spine = c .before .before in
+    let at-write-subtree = at-write-spine .before .before .before .before in
+    write-rest (at-write-subtree .write-subtree .ensures .writing) (at-write-spine .write-spine .ensures)
 
 -- What `write_spine` calls.
 abbrev write-spine-calls : ℕ → write-spine-lts.Claims
@@ -78,57 +82,46 @@ write-spine-cast-if1 t c = search needs
 write-spine-slice-write-shape : (t : ℕ)
     → write-spine-lts.Need-slice-write-shape (write-spine-calls t) (write-spine-at t) write-spine.Post
 write-spine-slice-write-shape t c =
-    omega (
-      arith,
-      spine-length (c .before .before .before .before .pre .1) (c .if1 .taken),
-      c .before .before .before
-          .before .pre .1 .room,
-    )
+    let asked = c .before .before .before .before .pre .1 in
+    omega (arith, spine-length asked (c .if1 .taken), asked .room)
 
 write-spine-add-write-inner : (t : ℕ)
     → write-spine-lts.Need-add-write-inner (write-spine-calls t) (write-spine-at t) write-spine.Post
 write-spine-add-write-inner t c =
-    omega (
-      arith,
-      spine-length (c .before .before .before .before .before .pre .1) (c .before .if1 .taken),
-      c .before
-          .before .before .before .before .pre .1 .room,
-      c .before .before .before .before .before .good,
-    )
+    let at-if1 = c .before in
+    let at-start = at-if1 .before .before .before .before in
+    let asked = at-start .pre .1 in
+    omega (arith, spine-length asked (at-if1 .if1 .taken), asked .room, at-start .good)
 
 write-spine-write-inner-requires : (t : ℕ)
     → write-spine-lts.Need-write-inner-requires (write-spine-calls t) (write-spine-at t) write-spine.Post
-write-spine-write-inner-requires t c κs = (
-  omega (
-    arith,
-    spine-length (c .before .before .before .before .before .pre .1) (c .before .if1 .taken),
-    c .before
-        .before .before .before .before .pre .0,
-  ),
-  spine-room (c .before .before .before .before .before .pre .1) (c
-      .before .if1 .taken),
-)
+write-spine-write-inner-requires t c κs =
+    let at-if1 = c .before in
+    let asked = at-if1 .before .before .before .before .pre in (
+      omega (arith, spine-length (asked .1) (at-if1 .if1 .taken), asked .0),
+      spine-room (asked .1) (at-if1 .if1 .taken),
+    )
 
 write-spine-same-length : (t : ℕ)
     → write-spine-lts.Need-same-length (write-spine-calls t) (write-spine-at t) write-spine.Post
 write-spine-same-length t c =
-    c .before .before .write-inner .kept .1 .1 .0 ∙ length-set (c .before .before .before .before .before .before
-    .before .before .args .shape .now) (c .before .before .before .before .before .before .before .before .args
-    .at) 1
+    let at-write-inner = c .before .before in
+    let args = at-write-inner .before .before .before .before .before .before .args in
+    at-write-inner .write-inner .kept .1 .1 .0 ∙ length-set (args .shape .now) (args .at) 1
 
 write-spine-returns : (t : ℕ) → write-spine-lts.Need-returns (write-spine-calls t) (write-spine-at t) write-spine.Post
-write-spine-returns t c = spine-wrote (c .before .before .before .before .before .before .before .before .pre .1) (c
-    .before .before .before .before .if1 .taken) (c .before .before .write-inner .ensures)
+write-spine-returns t c =
+    let at-write-inner = c .before .before in
+    let at-if1 = at-write-inner .before .before in
+    let at-start = at-if1 .before .before .before .before in
+    spine-wrote (at-start .pre .1) (at-if1 .if1 .taken) (at-write-inner .write-inner .ensures)
 
 write-spine-put-leaf-requires : (t : ℕ)
     → write-spine-lts.Need-put-leaf-requires (write-spine-calls t) (write-spine-at t) write-spine.Post
 write-spine-put-leaf-requires t c κs =
-    omega (
-      arith,
-      last-length (c .before .before .before .before .before .pre .1) (c .before .if1 .left),
-      c .before
-          .before .before .before .before .pre .1 .room,
-    )
+    let at-if1 = c .before in
+    let asked = at-if1 .before .before .before .before .pre .1 in
+    omega (arith, last-length asked (at-if1 .if1 .left), asked .room)
 
 write-spine-same-length-2 : (t : ℕ)
     → write-spine-lts.Need-same-length-2 (write-spine-calls t) (write-spine-at t) write-spine.Post
@@ -137,9 +130,10 @@ write-spine-same-length-2 t c = c .before .before .put-leaf .kept .0
 write-spine-returns-2 : (t : ℕ)
     → write-spine-lts.Need-returns-2 (write-spine-calls t) (write-spine-at t) write-spine.Post
 write-spine-returns-2 t c =
-    wrote-same (sym (nodes-end (c .before .before .before .before .before .before .before .before .args .e .now) (c
-    .before .before .before .before .before .before .before .before .args .leaf .0) (c .before .before .before
-    .before .if1 .left))) (c .before .before .put-leaf .ensures)
+    let at-put-leaf = c .before .before in
+    let at-if1 = at-put-leaf .before .before in
+    let args = at-if1 .before .before .before .before .args in
+    wrote-same (sym (nodes-end (args .e .now) (args .leaf .0) (at-if1 .if1 .left))) (at-put-leaf .put-leaf .ensures)
 
 pub +write-inner+write-spine-spec : {M : Type 1} → statement M
 +write-inner+write-spine-spec = close μ-write-inner μ-write-spine (λ t. write-inner-lts.spec (write-inner-calls t)

@@ -23,52 +23,63 @@ leaf-exponent-requires : tie.Need-leaf-exponent-requires Inv-loop μ-loop
 leaf-exponent-requires c κs = tt
 
 put-leaf-requires : tie.Need-put-leaf-requires Inv-loop μ-loop
-put-leaf-requires c κs = leaf-room (c .before .before .before .loop .inv) (c .before .before .before .before .before
-    .before .pre) _ (c .before .before .loop-test .taken) (c .before .leaf-exponent .ensures)
+put-leaf-requires c κs =
+    let at-leaf-exponent = c .before in
+    let at-loop-test = at-leaf-exponent .before in
+    let at-loop = at-loop-test .before in
+    let at-start = at-loop .before .before .before in
+    leaf-room (at-loop .loop .inv) (at-start .pre) _ (at-loop-test .loop-test .taken)
+    (at-leaf-exponent .leaf-exponent .ensures)
 
 add-k : tie.Need-add-k Inv-loop μ-loop
 add-k c =
-    omega (
-      arith,
-      c .before .before .before .before .before .before .loop .inv .early,
-      c .before .before .before
-          .before .before .before .loop .inv .writing .ends,
-      c .before .before .before .before .before .before .before
-          .before .before .pre .small,
-    )
+    let at-loop = c .before .before .before .before .before .before in
+    let at-start = at-loop .before .before .before in
+    let inv = at-loop .loop .inv in
+    omega (arith, inv .early, inv .writing .ends, at-start .pre .small)
 
 sub-pending : tie.Need-sub-pending Inv-loop μ-loop
 sub-pending c = omega arith
 
 add-pending : tie.Need-add-pending Inv-loop μ-loop
 add-pending c =
+    let at-leaf-exponent = c .before .before .before .before in
+    let at-loop-test = at-leaf-exponent .before in
+    let at-loop = at-loop-test .before in
+    let at-start = at-loop .before .before .before in
+    let inv = at-loop .loop .inv in
     omega (
       arith,
-      pending-bound (c .before .before .before .before .before .before .loop .inv) (c .before .before .before .before
-          .before .before .before .before .before .pre) _ (c .before .before .before .before .before .loop-test .taken)
-          (c .before .before .before .before .leaf-exponent .ensures),
-      c .before .before .before .before .before .before .before .before .before .good,
-      writing-length (c .before .before .before .before .before .before .loop .inv .writing),
+      pending-bound inv (at-start .pre) _ (at-loop-test .loop-test .taken) (at-leaf-exponent .leaf-exponent .ensures),
+      at-start .good,
+      writing-length (inv .writing),
     )
 
 loop-less : tie.Need-loop-less Inv-loop μ-loop
 loop-less c =
+    let at-put-leaf = c .before .before in
+    let at-leaf-exponent = at-put-leaf .before .before in
+    let at-loop-test = at-leaf-exponent .before in
+    let at-loop = at-loop-test .before in
+    let at-start = at-loop .before .before .before in
+    let inv = at-loop .loop .inv in
     omega (
       arith,
-      c .before .before .put-leaf .ensures .ends,
-      own-length (c .before .before .before .before .leaf-exponent .result),
-      leaf-room (c .before .before .before .before .before .before .loop .inv) (c .before .before .before .before
-          .before .before .before .before .before .pre) _ (c .before .before .before .before .before .loop-test .taken)
-          (c .before .before .before .before .leaf-exponent .ensures),
-      writing-length (c .before .before .before .before .before .before .loop .inv .writing),
+      at-put-leaf .put-leaf .ensures .ends,
+      own-length (at-leaf-exponent .leaf-exponent .result),
+      leaf-room inv (at-start .pre) _ (at-loop-test .loop-test .taken) (at-leaf-exponent .leaf-exponent .ensures),
+      writing-length (inv .writing),
     )
 
 loop-again : tie.Need-loop-again Inv-loop μ-loop
 loop-again c =
-    pending-more (c .before .before .before .before .before .before .loop .inv) (c .before .before .before .before
-    .before .before .before .before .before .pre) _ (c .before .before .before .before .before .loop-test .taken)
-    (c .before .before .before .before .leaf-exponent .ensures)
-    (c .before .before .put-leaf .ensures)
+    let at-put-leaf = c .before .before in
+    let at-leaf-exponent = at-put-leaf .before .before in
+    let at-loop-test = at-leaf-exponent .before in
+    let at-loop = at-loop-test .before in
+    let at-start = at-loop .before .before .before in
+    pending-more (at-loop .loop .inv) (at-start .pre) _ (at-loop-test .loop-test .taken)
+    (at-leaf-exponent .leaf-exponent .ensures) (at-put-leaf .put-leaf .ensures)
 
 same-length : tie.Need-same-length Inv-loop μ-loop
 same-length c = writing-length (c .before .loop .inv .writing)

@@ -23,9 +23,11 @@ same-length c = search needs
 
 returns : tie.Need-returns
 returns c =
-    let entry = c .before .before .before .before .before .before .before in
-    c .before .before .write-spine .ensures .holds
-    ∙ ap (λ (bytes : List ℕ). sets (entry .args .shape .now) 0 bytes) (tree-nodes (entry .pre .0) (entry .pre .1))
+    let at-write-spine = c .before .before in
+    let at-start = at-write-spine .before .before .before .before .before in
+    at-write-spine .write-spine .ensures .holds
+    ∙ ap (λ (bytes : List ℕ). sets (at-start .args .shape .now) 0 bytes)
+    (tree-nodes (at-start .pre .0) (at-start .pre .1))
 
 pub write-whole-spec : {M : Type 1} → statement M
 write-whole-spec =

@@ -1,10 +1,23 @@
 -- `write_word` meets its contract: the engine's tables, then the record of their front. Assumes nothing.
+use mathlib.Core.Path.{sym}
 use native.Mathlib.Omega.{arith}
-use lib.ListN.{length-take}
+use lib.Seq.{length-take-le}
 use Rattle.words.proofs.Recorded.{word-fit, same-length as same-letters, engine-levels, word-written}
 use borrow.Author.Needs.{needs}
 use Rattle.words.proofs.writing.write_word.Statement.{statement}
 use Rattle.words.proofs.writing.write_word.Tie as tie
+
+-- The engine's call, seen from where the number of its levels was read, and the entry before it.
+abbrev engine : tie.After-levels-read → tie.After-fill-tables
+engine c =
+    let at-slice-known9 = c .before .before .before .before .before in
+    at-slice-known9 .before .before .before .before .before .before
+
+abbrev start : tie.After-fill-tables → tie.Start
+start c =
+    let at-fill-tables-arg = c .before .before .before .before .before in
+    let at-slice-known3 = at-fill-tables-arg .before .before .before .before in
+    at-slice-known3 .before .before .before .before
 
 fill-tables-requires : tie.Need-fill-tables-requires
 fill-tables-requires c κs = search needs
@@ -13,79 +26,37 @@ levels-read-requires : tie.Need-levels-read-requires
 levels-read-requires c κs = search needs
 
 slice-reshare-prefix-write-record : tie.Need-slice-reshare-prefix-write-record
-slice-reshare-prefix-write-record c = omega (
-  arith,
-  word-fit (c .before .before .before .before .before .before .before
-      .before .before .before .before .before .before .before .before .before .before .before .before .before .before
-      .before .before .before .pre) .fit .b-long,
-  same-letters (c .before .before .before .before .before .before .before
-      .before .before .before .before .before .before .before .before .before .before .before .before .before .before
-      .before .before .before .pre),
-  engine-levels (c .before .before .before .before .before .before .before .before
-      .before .before .before .before .before .before .before .before .before .before .before .before .before .before
-      .before .before .pre) (c .before .before .before .before .before .before .before .before .before .before .before
-      .fill-tables .ensures) .1,
-  c .levels-read .ensures,
-  c .before .before .before .before .before .before .before
-      .before .before .before .before .fill-tables .kept .1 .0,
-)
+slice-reshare-prefix-write-record c =
+    let at-fill-tables = engine c in
+    let ready = start at-fill-tables .pre in
+    omega (
+      arith,
+      word-fit ready .fit .b-long,
+      same-letters ready,
+      engine-levels ready (at-fill-tables .fill-tables .ensures) .1,
+      c .levels-read .ensures,
+      at-fill-tables .fill-tables .kept .1 .0,
+    )
 
 slice-aggregate-write-record : tie.Need-slice-aggregate-write-record
-slice-aggregate-write-record c = simp length-take (omega (
-  arith,
-  word-fit (c .before .before .before .before .before
-      .before .before .before .before .before .before .before .before .before .before .before .before .before .before
-      .before .before .before .before .before .before .pre) .fit .b-long,
-  same-letters (c .before .before .before .before
-      .before .before .before .before .before .before .before .before .before .before .before .before .before .before
-      .before .before .before .before .before .before .before .pre),
-  engine-levels (c .before .before .before .before
-      .before .before .before .before .before .before .before .before .before .before .before .before .before .before
-      .before .before .before .before .before .before .before .pre) (c .before .before .before .before .before .before
-      .before .before .before .before .before .before .fill-tables .ensures) .1,
-  c .before .levels-read .ensures,
-  c
-      .before .before .before .before .before .before .before .before .before .before .before .before .fill-tables .kept
-      .1 .0,
-))
+slice-aggregate-write-record c = sym (length-take-le _ _ (slice-reshare-prefix-write-record (c .before)))
 
 slice-reshare-prefix-write-record-2 : tie.Need-slice-reshare-prefix-write-record-2
-slice-reshare-prefix-write-record-2 c = omega (
-  arith,
-  word-fit (c .before .before .before .before .before .before
-      .before .before .before .before .before .before .before .before .before .before .before .before .before .before
-      .before .before .before .before .before .pre) .fit .a-long,
-  same-letters (c .before .before .before .before .before
-      .before .before .before .before .before .before .before .before .before .before .before .before .before .before
-      .before .before .before .before .before .before .pre),
-  engine-levels (c .before .before .before .before .before
-      .before .before .before .before .before .before .before .before .before .before .before .before .before .before
-      .before .before .before .before .before .before .pre) (c .before .before .before .before .before .before .before
-      .before .before .before .before .before .fill-tables .ensures) .1,
-  c .before .levels-read .ensures,
-  c .before
-      .before .before .before .before .before .before .before .before .before .before .before .fill-tables
-      .kept .1 .1 .0,
-)
+slice-reshare-prefix-write-record-2 c =
+    let at-levels-read = c .before in
+    let at-fill-tables = engine at-levels-read in
+    let ready = start at-fill-tables .pre in
+    omega (
+      arith,
+      word-fit ready .fit .a-long,
+      same-letters ready,
+      engine-levels ready (at-fill-tables .fill-tables .ensures) .1,
+      at-levels-read .levels-read .ensures,
+      at-fill-tables .fill-tables .kept .1 .1 .0,
+    )
 
 slice-aggregate-write-record-2 : tie.Need-slice-aggregate-write-record-2
-slice-aggregate-write-record-2 c = simp length-take (omega (
-  arith,
-  word-fit (c .before .before .before .before .before
-      .before .before .before .before .before .before .before .before .before .before .before .before .before .before
-      .before .before .before .before .before .before .before .pre) .fit .a-long,
-  same-letters (c .before .before .before
-      .before .before .before .before .before .before .before .before .before .before .before .before .before .before
-      .before .before .before .before .before .before .before .before .before .pre),
-  engine-levels (c .before .before
-      .before .before .before .before .before .before .before .before .before .before .before .before .before .before
-      .before .before .before .before .before .before .before .before .before .before .pre) (c .before .before .before
-      .before .before .before .before .before .before .before .before .before .before .fill-tables .ensures) .1,
-  c
-      .before .before .levels-read .ensures,
-  c .before .before .before .before .before .before .before .before .before
-      .before .before .before .before .fill-tables .kept .1 .1 .0,
-))
+slice-aggregate-write-record-2 c = sym (length-take-le _ _ (slice-reshare-prefix-write-record-2 (c .before)))
 
 write-record-requires : tie.Need-write-record-requires
 write-record-requires c κs = search needs
@@ -113,16 +84,16 @@ same-length-6 c = search needs
 
 returns : tie.Need-returns
 returns c =
-    let ready = c .before .before .before .before .before .before .before .before .before .before .before .before
-    .before .before .before .before .before .before .before .before .before .before .before .before .before .before
-    .before .before .before .before .before .pre in
-    let filled = c .before .before .before .before .before .before .before .before .before .before .before .before
-    .before .before .before .before .before .before .fill-tables .ensures in
+    let at-write-record = c .before .before .before in
+    let at-levels-read = at-write-record .before .before .before .before in
+    let at-fill-tables = engine at-levels-read in
+    let ready = start at-fill-tables .pre in
+    let filled = at-fill-tables .fill-tables .ensures in
     let read = engine-levels ready filled in
-    let count = c .before .before .before .before .before .before .before .levels-read .ensures in
+    let count = at-levels-read .levels-read .ensures in
     word-written
     ready
-    (c .before .before .before .before .before .before .before .levels-read .result)
+    (at-levels-read .levels-read .result)
     (omega (arith, count, read .0))
     (omega (arith, count, read .1))
     _
@@ -133,7 +104,7 @@ returns c =
     _
     (c .bytes-written .result)
     (c .bytes-written .ensures)
-    (c .before .before .before .write-record .ensures)
+    (at-write-record .write-record .ensures)
 
 pub write-word-spec : {M : Type 1} → statement M
 write-word-spec =

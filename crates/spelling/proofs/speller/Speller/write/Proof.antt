@@ -27,27 +27,29 @@ sub-due c = search needs
 
 put-turn-requires : tie.Need-put-turn-requires
 put-turn-requires c κs =
-    let given = c .before .before .before .before in
+    let at-start = c .before .before .before .before in
+    let args = at-start .args in
     omega (
       arith,
-      ap (λ (s : Speller). s .count) (behind-power (given .args .self) (given .args .k .0 - 1)
-          (given .args .e) (omega arith)),
-      given .pre,
+      ap (λ (s : Speller). s .count) (behind-power (args .self) (args .k .0 - 1) (args .e) (omega arith)),
+      at-start .pre,
     )
 
 put-letters-requires : tie.Need-put-letters-requires
 put-letters-requires c κs =
-    let put = c .before .before .before .before in
-    let given = put .before .before .before .before .before in
+    let at-put-turn = c .before .before .before .before in
+    let at-if1 = at-put-turn .before .before .before in
+    let at-start = at-if1 .before .before in
+    let args = at-start .args in
     omega (
       arith,
-      ap (λ (s : Speller). s .count) (behind-power (given .args .self) (given .args .k .0 - 1) (given .args .e)
-          (omega (arith, put .before .before .before .if1 .left))),
-      bytes-length (turn (given .args .self .due) (given .args .k .0 - 1)),
-      turn-length (given .args .self .due) (given .args .k .0 - 1),
-      put .put-turn .ensures,
-      put .put-turn .kept,
-      given .pre,
+      ap (λ (s : Speller). s .count)
+          (behind-power (args .self) (args .k .0 - 1) (args .e) (omega (arith, at-if1 .if1 .left))),
+      bytes-length (turn (args .self .due) (args .k .0 - 1)),
+      turn-length (args .self .due) (args .k .0 - 1),
+      at-put-turn .put-turn .ensures,
+      at-put-turn .put-turn .kept,
+      at-start .pre,
     )
 
 same-length : tie.Need-same-length
@@ -55,16 +57,18 @@ same-length c = search needs
 
 returns-2 : tie.Need-returns-2
 returns-2 c =
-    let put = c .before .before .before .before .before .before .before in
-    let given = put .before .before .before .before .before in
-    let byte : c .before .before .before .before .if2 .letter ≡ byteOf (cond (given .args .inverse) 'B 'b) =
-    elim (c .before .before .before .before .if2 .came) [
+    let at-put-letters = c .before .before in
+    let at-if2 = at-put-letters .before .before in
+    let at-put-turn = at-if2 .before .before .before in
+    let at-if1 = at-put-turn .before .before .before in
+    let args = at-if1 .before .before .args in
+    let byte : at-if2 .if2 .letter ≡ byteOf (cond (args .inverse) 'B 'b) =
+    elim (at-if2 .if2 .came) [
       | inl w ↦ rw (w .0 .taken) (w .1)
       | inr w ↦ rw (w .0 .left) (w .1)
     ] in
-    run-wrote (given .args .k .0 - 1) (cond (given .args .inverse) 'B 'b) (given .args .e)
-    (omega (arith, put .before .before .before .if1 .left)) byte
-    (put .put-turn .ensures) (c .before .before .put-letters .ensures)
+    run-wrote (args .k .0 - 1) (cond (args .inverse) 'B 'b) (args .e) (omega (arith, at-if1 .if1 .left)) byte
+    (at-put-turn .put-turn .ensures) (at-put-letters .put-letters .ensures)
 
 pub write-spec : {M : Type 1} → statement M
 write-spec =
