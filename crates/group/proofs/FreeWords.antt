@@ -5,11 +5,11 @@
 --     Pair        the four strings x x⁻¹, for `Congruent`
 -- Assumes nothing.
 use mathlib.Core.Path.{_≡_, refl, sym, _∙_, ap, _≡⟨_⟩_, _∎}
-use mathlib.Core.List.{[], _∷_, _++_}
+use mathlib.Core.List.{[], _∷_}
 use Rattle.group.specs.Letters.{Letter, 'a, 'A, 'b, 'B, sameLetter, Word, inverseLetter}
 use Rattle.group.specs.FreeReduction.{pushOn, push, freely}
 use Rattle.group.specs.Chains.{Joined}
-use Rattle.group.proofs.Congruence.{Congruent, ≈-refl, ≈-sym, ≈-trans, ≈-cons, ≈-drop, ≈-append, ≈→joined}
+use Rattle.group.proofs.Congruence.{Congruent, ≈-refl, ≈-sym, ≈-trans, ≈-cons, ≈-drop, ≈→joined}
 use Rattle.group.proofs.Inverses.{inverse-letter-twice, eight-pairs}
 use Rattle.group.proofs.FreeReduction.{freely-sound}
 
@@ -75,10 +75,6 @@ freely-same (≈-sym h) = sym (freely-same h)
 freely-same (≈-trans h k) = freely-same h ∙ freely-same k
 freely-same (≈-cons x h) = ap (push x) (freely-same h)
 freely-same (≈-drop (pair x) t) = push-undo x (freely t) (freely-no-pairs t)
-
--- Two words, one behind the other.
-pub freely-append : (u v : Word) → freely (u ++ v) ≡ freely (freely u ++ freely v)
-freely-append u v = freely-same (≈-append (freely-sound pair u) (freely-sound pair v))
 
 -- A chain joins a word to its freely reduced word.
 pub freely-joined : (w : Word) → Joined w (freely w)

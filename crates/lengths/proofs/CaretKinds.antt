@@ -14,9 +14,8 @@ use lib.Dec.{T}
 use lib.ListN.{drop, length}
 use Rattle.lists.specs.Entries.{At}
 use Rattle.lists.proofs.Entries.{at-bound, at-exists, at-same}
-use Rattle.group.specs.Points.{𝟎}
-use Rattle.trees.specs.Trees.{Tree, leaf, caret, carets, Address, LeftSide}
-use Rattle.trees.proofs.Carets.{CaretAt, to-caret, of-caret, caret-lt}
+use Rattle.trees.specs.Trees.{Tree, carets}
+use Rattle.trees.proofs.Carets.{to-caret, caret-lt}
 use Rattle.lengths.specs.Classes.{Class, onLeft, onRight, insideLeaf, insideCaret, classes}
 use Rattle.lengths.specs.Kinds.{
   Kind,
@@ -27,7 +26,6 @@ use Rattle.lengths.specs.Kinds.{
   R0,
   I0,
   IR,
-  OnLeft,
   OnRight,
   Interior,
   IsKind,
@@ -168,16 +166,3 @@ first-kind t k = (
   (λ h. (h .0, omega (arith, caret-lt t k (h .1 .0) (to-caret t k (h .1 .0) (h .1 .1))))),
   λ h. (h .0, caret-of t k (omega (arith, h .0, h .1))),
 )
-
--- It is on the left side.
-pub first-left : (t : Tree) → 0 < carets t → OnLeft t 0
-first-left t h =
-    let v = go t h in
-    (v .0, of-caret t 0 (v .0) (v .1), v .2)
-  where
-    go : (s : Tree) → 0 < carets s → (v : Address) × CaretAt s 0 v × LeftSide v
-    go leaf p = absurd (omega arith)
-    go (caret leaf r) p = ([], refl, tt)
-    go (caret (caret x y) r) p =
-        let v = go (caret x y) (omega arith) in
-        (𝟎 ∷ v .0, v .1, v .2)

@@ -192,9 +192,6 @@ module _ {shape : List ℕ} {at caret pending : ℕ} {classes : List ℕ} (r : N
     pub class-room : caret < length classes
     class-room = omega (arith, next-ready .room, next-leaf)
 
-    pub class-small : suc caret ≤ maxCarets
-    class-small = omega (arith, next-ready .small, next-leaf)
-
     pub node-inside : (x : Amid) (c : ℕ) → c ≡ classByte (insideAt (getD shape (at + 1) 0)) → x .pending ≡ pending - 1
         → x .caret .0 ≡ caret + 1 → NodeRead shape at caret pending classes (set classes caret c) x
     node-inside x c ec ep ek = rw (ep, ek) (record {

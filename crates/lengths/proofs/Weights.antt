@@ -2,13 +2,13 @@
 -- Assumes nothing.
 use mathlib.Core.Path.{_≡_, refl, ap₂, subst}
 use mathlib.Core.Bool.{Bool}
-use mathlib.Core.List.{List, [], _∷_}
-use Prim.Native.Nat.{ℕ, _+_, _<_, _≤_}
+use mathlib.Core.List.{[], _∷_}
+use Prim.Native.Nat.{ℕ, _<_, _≤_}
 use lib.Dec.{T, eqb, leb, eqb→eq, leb→le, lit<}
 use lib.ListN.{getD}
 use Rattle.lists.proofs.Tests.{all, all-at}
 use Rattle.lengths.specs.Kinds.{Kind, L0, LL, RI, RN, R0, I0, IR}
-use Rattle.lengths.specs.Weights.{weight, weights}
+use Rattle.lengths.specs.Weights.{weight}
 
 -- The seven kinds by their numbers, and the number of each.
 abbrev pub numbered : ℕ → Kind
@@ -41,10 +41,3 @@ weight-symmetric x y =
 -- No pair weighs more than 4.
 pub weight-most : (x y : Kind) → weight x y ≤ 4
 weight-most x y = leb→le (weight x y) 4 (all-kinds (λ x y. leb (weight x y) 4) tt x y)
-
--- The sum is the same where the two lists are exchanged.
-pub weights-symmetric : (xs ys : List Kind) → weights xs ys ≡ weights ys xs
-weights-symmetric [] [] = refl
-weights-symmetric [] (y ∷ ys) = refl
-weights-symmetric (x ∷ xs) [] = refl
-weights-symmetric (x ∷ xs) (y ∷ ys) = ap₂ (λ (m n : ℕ). m + n) (weight-symmetric x y) (weights-symmetric xs ys)

@@ -13,7 +13,6 @@ pub mod Framing
 pub mod ProperPowers
 pub mod Levels
 pub mod ReadBack
-pub mod RecordBytes
 -- scans and faults, the clause, and what a reading comes to
 pub mod Scans
 pub mod FirstFaults

@@ -6,7 +6,7 @@ use mathlib.Core.List.{List, [], _∷_}
 use Prim.Native.Nat.{ℕ, zero, suc, _+_, _<_, _≤_}
 use native.Mathlib.Decide.{decLt, ℕ-discrete}
 use native.Mathlib.Omega.{arith}
-use lib.ListN.{length, getD}
+use lib.ListN.{getD}
 use borrow.Author.Tests.{eq-eqb, ne-eqb}
 use Rattle.group.specs.Limits.{limit}
 use Rattle.records.specs.Format.{Power, power, putPower, powers}
@@ -20,11 +20,6 @@ total (power i e ∷ ps) = e + total ps
 pub proper-lower : (ps : List Power) (low high : ℕ) → low ≤ high → Proper high ps → Proper low ps
 proper-lower [] low high h r = tt
 proper-lower (power i e ∷ ps) low high h r = (omega arith, r .1, r .2, r .3)
-
--- As many powers as the sum of their exponents at most.
-pub proper-count : (ps : List Power) (low : ℕ) → Proper low ps → length ps ≤ total ps
-proper-count [] low r = omega arith
-proper-count (power i e ∷ ps) low r = omega (arith, r .2, proper-count ps (suc i) (r .3))
 
 at-index : (i e k : ℕ) (ps : List Power) → i ≡ k → exponentAt (power i e ∷ ps) k ≡ e
 at-index i e k ps h = rw (eq-eqb i k h) refl

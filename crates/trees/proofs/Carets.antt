@@ -138,10 +138,6 @@ caret-subtree t k v h = go t k v (to-caret t k v h)
     go (caret l r) i (𝟎 ∷ u) p = go l i u p
     go (caret l r) i (𝟏 ∷ u) p = go r (p .0) u (p .2)
 
--- The subtree at its left edge.
-pub left-child : (t : Tree) (v : Address) (l r : Tree) → Subtree t v (caret l r) → Subtree t (v ++ (𝟎 ∷ [])) l
-left-child t v l r h = subtree-append t v (𝟎 ∷ []) (caret l r) l h refl
-
 -- The subtree at its right edge.
 pub right-child : (t : Tree) (v : Address) (l r : Tree) → Subtree t v (caret l r) → Subtree t (v ++ (𝟏 ∷ [])) r
 right-child t v l r h = subtree-append t v (𝟏 ∷ []) (caret l r) r h refl

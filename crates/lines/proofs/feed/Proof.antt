@@ -6,9 +6,6 @@ use lib.ListN.{length}
 use Rattle.lines.proofs.Feeding.{Feeding, feeding, feed-end, feed-more, feed-out}
 use Rattle.lines.proofs.feed.Statement.{statement}
 use Rattle.lines.proofs.feed.Tie as tie
-use Rattle.lines.proofs.feed.Reads as reads
-use Rattle.lines.proofs.feed.Lts as lts
-use Rattle.lines.proofs.keep.Reads as keep-reads
 
 abbrev Inv-loop : tie.InvT-loop
 Inv-loop part from line₀ held i₀ h₀ line i h = Feeding part from line₀ held line i h

@@ -3,8 +3,6 @@ use borrow.Author.Needs.{needs}
 use Rattle.lines.proofs.Feeding.{keep-inside, keep-outside}
 use Rattle.lines.proofs.keep.Statement.{statement}
 use Rattle.lines.proofs.keep.Tie as tie
-use Rattle.lines.proofs.keep.Reads as reads
-use Rattle.lines.proofs.keep.Lts as lts
 
 -- src/lib.rt:22:9
 slice-write-line : tie.Need-slice-write-line

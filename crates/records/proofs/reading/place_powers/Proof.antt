@@ -1,6 +1,5 @@
 -- `place_powers` meets its contract. Assumes nothing.
 use mathlib.Core.Path.{refl}
-use Prim.Native.Nat.{_-_}
 use native.Mathlib.Omega.{arith}
 use Rattle.records.proofs.Placing.{PlacingLoop, placing-index, placing-more, placing-done}
 use Rattle.records.proofs.reading.place_powers.Statement.{statement}

@@ -1,6 +1,5 @@
 -- `scan_field` meets its contract. Assumes nothing.
 use mathlib.Core.Path.{refl, sym, _∙_}
-use Prim.Native.Nat.{_-_}
 use native.Mathlib.Omega.{arith}
 use Rattle.records.proofs.Scanning.{Scanning, scanning-fault, scanning-more, scanning-done}
 use Rattle.records.proofs.reading.scan_field.Statement.{statement}
