@@ -21,10 +21,9 @@ use Rattle.group.specs.Forms.{Form, empty, exponentSum, levels}
 use Rattle.group.specs.Limits.{limit}
 use Rattle.group.specs.Reducing.{Reduced}
 use Rattle.trees.specs.Trees.{Tree, leaf, carets, Address, leaves, Leaf, caretPlaces, Caret, Subtree}
-use Rattle.trees.specs.Exponents.{leftEdges}
+use Rattle.trees.specs.Exponents.{leftEdges, rightEdges}
 use Rattle.trees.specs.Pairs.{caretsOf, minusTree, plusTree, Pair, SmallestPair, Redundant, SendsLeaves, InLeaf}
 use Rattle.trees.specs.Shapes.{shape, Node, subtreeEnd}
-use Rattle.trees.proofs.Carets.{rightEdges}
 use Rattle.lengths.specs.Kinds.{Kind, L0, IsKind}
 use Rattle.lengths.specs.Weights.{weight, tableEntry, weights, pairLength}
 

@@ -1,7 +1,7 @@
 -- Caret k stands between the leaves k and k + 1, and has two subtrees (01, 'The tree pair and the length'; 000,
 -- definition 2.1 and section 2.5).
 --     CaretAt t k v   caret k is at the address v, by the sides of the carets: the same as Caret t k v
---     rightEdges m    m right edges, one below the other          caret-between   the leaves beside a caret
+--     caret-between   the leaves beside a caret
 -- Assumes nothing.
 use mathlib.Core.Path.{_≡_, refl, sym, subst}
 use mathlib.Core.List.{[], _∷_, _++_}
@@ -13,7 +13,7 @@ use Rattle.lists.specs.Entries.{At}
 use Rattle.lists.proofs.Entries.{at-first, at-second, at-split, at-bound}
 use Rattle.group.specs.Points.{𝟎, 𝟏}
 use Rattle.trees.specs.Trees.{Tree, leaf, caret, carets, Address, below, Leaf, caretPlaces, Caret, Subtree}
-use Rattle.trees.specs.Exponents.{leftEdges}
+use Rattle.trees.specs.Exponents.{leftEdges, rightEdges}
 use Rattle.trees.proofs.Leaves.{below-length, to-below, of-below, LeafAt, of-leaf}
 
 -- There are as many places as carets.
@@ -77,11 +77,6 @@ of-caret (caret l r) k (𝟏 ∷ v) h =
 -- The carets have the numbers below N.
 pub caret-lt : (t : Tree) (k : ℕ) (v : Address) → CaretAt t k v → k < carets t
 caret-lt t k v h = omega (arith, at-bound (caretPlaces t) k v (of-caret t k v h), carets-numbered t)
-
--- m right edges, one below the other.
-abbrev pub rightEdges : ℕ → Address
-rightEdges zero = []
-rightEdges (suc m) = 𝟏 ∷ rightEdges m
 
 -- The first leaf of a tree is below left edges only, the last below right edges only.
 pub first-leaf : (t : Tree) → (n : ℕ) × LeafAt t 0 (leftEdges n)

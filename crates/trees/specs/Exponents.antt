@@ -6,13 +6,18 @@ use mathlib.Core.Path.{_≡_}
 use mathlib.Core.List.{[], _∷_, _++_}
 use mathlib.Core.Logic.{_⊎_}
 use Prim.Native.Nat.{ℕ, zero, suc, _<_, _≤_}
-use Rattle.group.specs.Points.{𝟎}
+use Rattle.group.specs.Points.{𝟎, 𝟏}
 use Rattle.trees.specs.Trees.{Tree, carets, Address, Leaf, RightSide}
 
 -- k left edges, one below the other.
 abbrev pub leftEdges : ℕ → Address
 leftEdges zero = []
 leftEdges (suc k) = 𝟎 ∷ leftEdges k
+
+-- k right edges, one below the other.
+abbrev pub rightEdges : ℕ → Address
+rightEdges zero = []
+rightEdges (suc k) = 𝟏 ∷ rightEdges k
 
 -- A path of k left edges goes up from u and does not reach the right side of the tree, on which the root counts: it has
 -- no edge, or it ends at an address v off the right side.
