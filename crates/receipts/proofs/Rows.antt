@@ -8,7 +8,7 @@ use Rattle.lines.specs.Lines.{lineFeed}
 use Rattle.lists.specs.Writes.{Wrote}
 use Rattle.lists.proofs.Writes.{write-then, wrote-same}
 use Rattle.receipts.specs.Text.{decimal, hexOf}
-use Rattle.receipts.specs.Steps.{numberThen, fourNumbers, recordRow}
+use Rattle.receipts.specs.Steps.{numberThen, numberSize, fourNumbers, numbersSize, recordRow}
 use Rattle.receipts.proofs.Decimals.{decimal-length}
 
 -- A field with the byte behind it, then the rest.
@@ -16,17 +16,18 @@ pub write-field : {s t u : List ℕ} {i j r : ℕ} (field : List ℕ) (behind : 
     → Wrote (field ++ (behind ∷ [])) s i t j → Wrote rest t j u r → Wrote (field ++ (behind ∷ rest)) s i u r
 write-field field behind rest v w = wrote-same (append-assoc field (behind ∷ []) rest) (write-then v w)
 
--- A number of 64 bits and a byte take at most 21 bytes.
-number-length : (n behind : ℕ) → n < 2 ^ 64 → length (numberThen n behind) ≤ 21
+-- A number of 64 bits and a byte take at most so many bytes.
+number-length : (n behind : ℕ) → n < 2 ^ 64 → length (numberThen n behind) ≤ numberSize
 number-length n behind h = omega (arith, length-append (decimal n) (behind ∷ []), decimal-length n h)
 
 -- Where a number and a byte behind it end.
-pub number-end : {s t : List ℕ} {i j : ℕ} (n behind : ℕ) → n < 2 ^ 64 → Wrote (numberThen n behind) s i t j → j ≤ i + 21
+pub number-end : {s t : List ℕ} {i j : ℕ} (n behind : ℕ) → n < 2 ^ 64 → Wrote (numberThen n behind) s i t j
+    → j ≤ i + numberSize
 number-end n behind h w = omega (arith, w .ends, number-length n behind h)
 
 -- Where four numbers end.
 pub numbers-end : {s t : List ℕ} {i j : ℕ} (k l m n : ℕ) → k < 2 ^ 64 → l < 2 ^ 64 → m < 2 ^ 64 → n < 2 ^ 64
-    → Wrote (fourNumbers k l m n) s i t j → j ≤ i + 84
+    → Wrote (fourNumbers k l m n) s i t j → j ≤ i + numbersSize
 numbers-end k l m n hk hl hm hn w =
     omega (
       arith,

@@ -23,6 +23,7 @@ use Rattle.forest.specs.Judging.{judgedReading}
 use Rattle.receipts.specs.Text.{ascii, decimal, hexOf}
 use Rattle.receipts.specs.Receipts.{row, formReceipt, refusalReceipt, lineRead, receiptBy, receiptOf}
 use Rattle.receipts.specs.Serving.{receiptSize}
+use Rattle.receipts.specs.Steps.{refusalSize}
 use Rattle.receipts.proofs.Decimals.{decimal-length}
 use Rattle.receipts.proofs.Hex.{hex-length}
 use Rattle.receipts.proofs.WordSizes.{length-most, carets-most}
@@ -66,7 +67,7 @@ form-length k w h short =
 
 -- The receipt of a refusal.
 refusal-length : (k refusal place : ℕ) → k < 2 ^ 64 → refusal < 2 ^ 64 → place < 2 ^ 64
-    → length (refusalReceipt k refusal place) ≤ 71
+    → length (refusalReceipt k refusal place) ≤ refusalSize
 refusal-length k refusal place h i j =
     omega (
       arith,

@@ -1,6 +1,6 @@
 -- The steps of the receipt writer, for the functions inside this crate. Assumes nothing.
 use mathlib.Core.List.{List, [], _∷_, _++_}
-use Prim.Native.Nat.{ℕ, suc, _≤_}
+use Prim.Native.Nat.{ℕ, suc, _+_, _*_, _≤_}
 use lib.ListN.{length}
 use Rattle.group.specs.Limits.{limit}
 use Rattle.refusals.specs.Outcomes.{Outcome, accepted, refused}
@@ -20,9 +20,21 @@ valueIn (refused number place) = 0
 abbrev pub numberThen : (n behind : ℕ) → List ℕ
 numberThen n behind = decimal n ++ (behind ∷ [])
 
+-- The most bytes of a 64-bit number and the byte behind it: 20 digits and one.
+abbrev pub numberSize : ℕ
+numberSize = 21
+
 -- Four numbers, a space behind each.
 abbrev pub fourNumbers : (k l m n : ℕ) → List ℕ
 fourNumbers k l m n = numberThen k 32 ++ (numberThen l 32 ++ (numberThen m 32 ++ numberThen n 32))
+
+-- The most bytes of four numbers, a space behind each.
+abbrev pub numbersSize : ℕ
+numbersSize = 4 * numberSize
+
+-- The most bytes of the receipt of a refusal: three numbers, and `refused` with a space.
+abbrev pub refusalSize : ℕ
+refusalSize = 3 * numberSize + 8
 
 -- The receipt of a record with four numbers.
 abbrev pub recordRow : (k l m n : ℕ) (bytes : List ℕ) → List ℕ

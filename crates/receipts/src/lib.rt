@@ -24,6 +24,9 @@ const SHORT_RECEIPT: usize = 85 + 2 * BASE_SIZE;
 // The most bytes of the receipt of a line that is kept.
 const LONG_RECEIPT: usize = SHORT_RECEIPT + 8 * LINE;
 
+// The bytes of the header.
+const HEADER_SIZE: usize = 34;
+
 // The bytes of a part for which a buffer of OUTPUT bytes is long enough.
 pub const PART: usize = 4096;
 
@@ -47,7 +50,7 @@ pub enum Serving {
 pub fn begin(out: &mut [u8]) -> Written
     ensures { λ r. ⌜ Begun (now (out .entry)) (now (out .exit)) r ⌝ }
 {
-    if out.len() < 34 {
+    if out.len() < HEADER_SIZE {
         return Written::Refused(Refusal::ShortBuffer);
     }
     Written::Bytes(text::put(b"line letters carets length record\n", out, 0))

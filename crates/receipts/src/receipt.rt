@@ -9,7 +9,8 @@ ghost use Rattle.lengths.specs.Contracts.{lengthOf};
 ghost use Rattle.words.specs.Recording.{memory};
 ghost use Rattle.receipts.specs.Receipts.{receiptOf, refusalReceipt};
 ghost use Rattle.receipts.specs.Serving.{receiptSize};
-ghost use Rattle.receipts.specs.Steps.{valueIn, fourNumbers, recordRow, tablesRow, smallLetters, LineRoom};
+ghost use Rattle.receipts.specs.Steps.{valueIn, fourNumbers, numbersSize, refusalSize, recordRow, tablesRow};
+ghost use Rattle.receipts.specs.Steps.{smallLetters, LineRoom};
 use crate::text;
 use lengths::Length;
 use records::BASE_SIZE;
@@ -29,7 +30,7 @@ const SMALL_RECORD: usize = BASE_SIZE + 4 * SMALL;
 
 // Line number, `refused`, number, place.
 fn put_refusal(number: u64, r: Refusal, out: &mut [u8], at: usize) -> usize
-    requires { ⌜ at + 71 ≤ length (now out) ⌝ }
+    requires { ⌜ at + refusalSize ≤ length (now out) ⌝ }
     ensures { λ end. ⌜ Wrote (refusalReceipt number (numberOf r) (placeOf r)) (now (out .entry)) at
         (now (out .exit)) end ⌝ }
 {
@@ -41,7 +42,7 @@ fn put_refusal(number: u64, r: Refusal, out: &mut [u8], at: usize) -> usize
 
 // Four numbers, a space behind each.
 fn put_numbers(k: u64, l: u64, m: u64, n: u64, out: &mut [u8], at: usize) -> usize
-    requires { ⌜ at + 84 ≤ length (now out) ⌝ }
+    requires { ⌜ at + numbersSize ≤ length (now out) ⌝ }
     ensures { λ r. ⌜ Wrote (fourNumbers k l m n) (now (out .entry)) at (now (out .exit)) r ⌝ }
 {
     let behind_k = text::put_number(k, b' ', out, at);

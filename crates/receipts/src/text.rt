@@ -6,6 +6,7 @@ ghost use lib.ListN.{length};
 ghost use Rattle.io.specs.Digits.{glyph};
 ghost use Rattle.lists.specs.Writes.{Wrote};
 ghost use Rattle.receipts.specs.Text.{decimal, hexOf};
+ghost use Rattle.receipts.specs.Steps.{numberSize};
 
 // All bytes of a text.
 pub fn put(text: &[u8], out: &mut [u8], at: usize) -> usize
@@ -32,7 +33,7 @@ fn put_decimal(n: u64, out: &mut [u8], at: usize) -> usize
 
 // A number in decimal digits, and a byte behind it.
 pub fn put_number(n: u64, behind: u8, out: &mut [u8], at: usize) -> usize
-    requires { ⌜ at + 21 ≤ length (now out) ⌝ }
+    requires { ⌜ at + numberSize ≤ length (now out) ⌝ }
     ensures { λ r. ⌜ Wrote (decimal n ++ (behind ∷ [])) (now (out .entry)) at (now (out .exit)) r ⌝ }
 {
     let end = put_decimal(n, out, at);
