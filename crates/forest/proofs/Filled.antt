@@ -16,6 +16,7 @@ use Rattle.refusals.specs.declared.Verdict.{Verdict}
 use Rattle.refusals.specs.declared.Verdict.the-variants.{Accepted, Refused}
 use Rattle.refusals.specs.Refusals.{numberOf, placeOf}
 use Rattle.refusals.specs.Outcomes.{Outcome, accepted, refused, checked, verdictOf}
+use Rattle.refusals.proofs.Outcomes.{accepted-refused, checked-accepted, checked-refused}
 use Rattle.forest.specs.declared.Filling.{Filling}
 use Rattle.forest.specs.declared.Filling.the-variants.{Filled, Refused as NotFilled, Unfit}
 use Rattle.forest.specs.Judging.{judged}
@@ -44,15 +45,6 @@ as-read : (side : Side) (s : List ℕ) (w : Word) (t : List ℕ) → readWord s 
 as-read side s w t h =
     ap₂ (λ (n : ℕ) (v : Word). filled (n + 1) (exponent side (formOf v)) t) (read-length s w h) (step-word s w h)
 
--- An outcome by its checked form.
-checked-refused : {A : Type 0} (o : Outcome A) (n p : ℕ) → refused n p ≡ checked o → o ≡ refused n p
-checked-refused (accepted x) n p e = let z : _≡_ {A = ℕ} 0 1 = cc in absurd (omega arith)
-checked-refused (refused m q) n p e = cc
-
-checked-accepted : {A : Type 0} (o : Outcome A) → accepted 0 ≡ checked o → (x : A) × (o ≡ accepted x)
-checked-accepted (accepted x) e = (x, refl)
-checked-accepted (refused m q) e = let z : _≡_ {A = ℕ} 0 1 = cc in absurd (omega arith)
-
 fit-judged : (word b a lefts rights stack : List ℕ) → length lefts ≡ cells → length rights ≡ cells → length stack ≡ room
     → judgedIn word b a lefts rights stack ≡ judged word (length b) (length a)
 fit-judged word b a lefts rights stack p q r =
@@ -67,7 +59,7 @@ module _ {word b a lefts rights stack : List ℕ} where
     b-table = sym (ap (λ (o : Outcome Word). tableAfter bSide o b) e);
     a-table = sym (ap (λ (o : Outcome Word). tableAfter aSide o a) e);
     scratch-kept = λ number place g. (refl, refl, refl);
-    levels-read = λ m g w h. let z : _≡_ {A = ℕ} 0 1 = cc in absurd (omega arith);
+    levels-read = λ m g w h. absurd (accepted-refused (sym h ∙ e));
   }
 
   -- Scratch of other sizes.
@@ -93,7 +85,7 @@ module _ {word b a lefts rights stack : List ℕ} where
     word-refused v x e f =
         kept (NotFilled x) (numberOf x) (placeOf x)
         (fit-judged word b a lefts rights stack p q r
-        ∙ checked-refused (judged word (length b) (length a)) _ _ (sym (ap verdictOf e) ∙ f))
+        ∙ checked-refused (judged word (length b) (length a)) (sym (ap verdictOf e) ∙ f))
         refl
 
     -- Where they are accepted: what the engine asks.
@@ -132,7 +124,7 @@ module _ {word b a lefts rights stack : List ℕ} where
                   t .a-table
                   ∙ as-read aSide word w a (fit .reads)
                   ∙ sym (ap (λ (u : Outcome Word). tableAfter aSide u a) o);
-              scratch-kept = λ number place h. let z : _≡_ {A = ℕ} 0 1 = cc in absurd (omega arith);
+              scratch-kept = λ number place h. absurd (accepted-refused (sym o ∙ h));
               levels-read = λ m k x h.
                   let same : w ≡ x = cc in
                   let number : n ≡ m = cc in

@@ -11,7 +11,7 @@ use Rattle.group.specs.Letters.{Word}
 use Rattle.group.specs.Bytes.{Reading, isWord, notLetter, readWord}
 use Rattle.group.specs.Limits.{limit}
 use Rattle.refusals.specs.Outcomes.{Outcome, accepted, refused, checked}
-use Rattle.refusals.proofs.Outcomes.{passed}
+use Rattle.refusals.proofs.Outcomes.{accepted-refused, passed}
 use Rattle.forest.specs.Judging.{judgedReading, judged}
 use Rattle.forest.specs.Scanning.{lettersInFront}
 use Rattle.forest.proofs.Scanning.{all-letters, some-bad}
@@ -72,7 +72,7 @@ pub record Fit (s : List ℕ) (nb na : ℕ) (w : Word) : Type 0 where
 
 reading-fit : (s : List ℕ) (nb na : ℕ) (w : Word) (r : Reading) → length s ≤ limit → readWord s ≡ r
     → judgedReading r (length s) nb na ≡ accepted w → Fit s nb na w
-reading-fit s nb na w (notLetter k) p e h = let z : _≡_ {A = ℕ} 0 1 = cc in absurd (omega arith)
+reading-fit s nb na w (notLetter k) p e h = absurd (accepted-refused (sym h))
 reading-fit s nb na w (isWord v) p e h =
     let b = passed (ltb nb (length s + 1)) 6 0 _ w h in
     let a = passed (ltb na (length s + 1)) 6 0 _ w (b .1) in

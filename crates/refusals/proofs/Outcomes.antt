@@ -20,31 +20,32 @@ module _ {A : Type 0} where
   pub refused-place : {n p m q : ℕ} → _≡_ {A = Outcome A} (refused n p) (refused m q) → p ≡ q
   refused-place h = cc
 
+module _ {A : Type 0} where
   -- A test that would refuse was passed.
   pub passed : (t : Bool) (n p : ℕ) (o : Outcome A) (x : A) → cond t (refused n p) o ≡ accepted x
       → (t ≡ false) × (o ≡ accepted x)
-  passed true n p o x e = let z : _≡_ {A = ℕ} 0 1 = cc in absurd (omega arith)
+  passed true n p o x e = absurd (accepted-refused (sym e))
   passed false n p o x e = (refl, e)
 
   -- What an outcome that counts as accepted holds.
   pub checked-accepted : (o : Outcome A) → accepted 0 ≡ checked o → (x : A) × (o ≡ accepted x)
   checked-accepted (accepted x) e = (x, refl)
-  checked-accepted (refused n p) e = let z : _≡_ {A = ℕ} 0 1 = cc in absurd (omega arith)
+  checked-accepted (refused n p) e = absurd (accepted-refused e)
 
   -- An outcome that counts as refused.
   pub checked-refused : {n p : ℕ} (o : Outcome A) → refused n p ≡ checked o → o ≡ refused n p
-  checked-refused (accepted x) e = let z : _≡_ {A = ℕ} 0 1 = cc in absurd (omega arith)
+  checked-refused (accepted x) e = absurd (accepted-refused (sym e))
   checked-refused (refused m q) e = cc
 
   -- An outcome with a number in place of what was found.
   pub valued-refused : (g : A → ℕ) (o : Outcome A) (n p : ℕ) → valued g o ≡ refused n p → o ≡ refused n p
-  valued-refused g (accepted x) n p h = let z : _≡_ {A = ℕ} 0 1 = cc in absurd (omega arith)
+  valued-refused g (accepted x) n p h = absurd (accepted-refused h)
   valued-refused g (refused k q) n p h = cc
 
   pub valued-accepted : (g : A → ℕ) (o : Outcome A) (n : ℕ) → valued g o ≡ accepted n
       → (x : A) × (o ≡ accepted x) × (g x ≡ n)
   valued-accepted g (accepted x) n h = let e : g x ≡ n = cc in (x, refl, e)
-  valued-accepted g (refused k q) n h = let z : _≡_ {A = ℕ} 0 1 = cc in absurd (omega arith)
+  valued-accepted g (refused k q) n h = absurd (accepted-refused (sym h))
 
 -- What is refused just under some conditions is accepted just where none of them holds.
 pub accepted-when : (o : Outcome ℕ) (P : ℕ → ℕ → Type 0) → ((n p : ℕ) → (o ≡ refused n p) ↔ P n p)

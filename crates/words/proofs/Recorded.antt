@@ -15,7 +15,7 @@ use Rattle.group.specs.Limits.{limit}
 use Rattle.group.proofs.Bytes.{read-length}
 use Rattle.group.proofs.Sizes.{form-sum}
 use Rattle.refusals.specs.Outcomes.{Outcome, accepted, after, valued, checked}
-use Rattle.refusals.proofs.Outcomes.{accepted-same}
+use Rattle.refusals.proofs.Outcomes.{accepted-same, accepted-refused}
 use Rattle.records.specs.Format.{recordOf}
 use Rattle.records.specs.Contracts.{encodingOf, encoded, Encoded}
 use Rattle.records.specs.declared.Encoding.{Encoding}
@@ -32,14 +32,14 @@ use Rattle.words.proofs.Judged.{RecordFit, accepted-record}
 -- The number of bytes of a record, where it was written.
 pub bytes-written : (e : Encoding) (n : ℕ) → encodingOf e ≡ accepted n → bytesWritten e ≡ n
 bytes-written (Bytes k) n h = accepted-same h
-bytes-written (Refused r) n h = let z : _≡_ {A = ℕ} 0 1 = cc in absurd (omega arith)
-bytes-written Unfit n h = let z : _≡_ {A = ℕ} 0 1 = cc in absurd (omega arith)
+bytes-written (Refused r) n h = absurd (accepted-refused (sym h))
+bytes-written Unfit n h = absurd (accepted-refused (sym h))
 
 -- The number of levels read, where the tables were filled.
 filled-count : (f : Filling) → fillingOf f ≡ accepted 0 → f ≡ Filled (levelsRead f)
 filled-count (Filled n) h = refl
-filled-count (NotFilled r) h = let z : _≡_ {A = ℕ} 0 1 = cc in absurd (omega arith)
-filled-count NoScratch h = let z : _≡_ {A = ℕ} 0 1 = cc in absurd (omega arith)
+filled-count (NotFilled r) h = absurd (accepted-refused (sym h))
+filled-count NoScratch h = absurd (accepted-refused (sym h))
 
 module _ {word b a buffer lefts rights stack : List ℕ} (h : Ready word (memory b a buffer) lefts rights stack) where
   abbrev pub theWord : Word
