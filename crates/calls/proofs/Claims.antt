@@ -25,6 +25,7 @@ claims = record {
   demand3 = Demands.demand3;
   exports-answer-as-calls = Exports.exports-answer-as-calls;
   records-of-forms = Records.records-of-forms;
+  records-are-read = Records.records-are-read;
   record-has-one-form = Records.record-has-one-form;
   records-are-accepted = Records.records-are-accepted;
   form-keeps-map = Forms.form-keeps-map;

@@ -12,7 +12,7 @@ use Rattle.refusals.specs.Outcomes.{Outcome, accepted, verdictOf, writtenOf}
 use Rattle.refusals.specs.declared.Verdict.{Verdict}
 use Rattle.refusals.specs.declared.Written.{Written}
 use Rattle.records.specs.Checking.{Checked}
-use Rattle.words.specs.Recording.{Memory, memory, recordOfWord, Recorded}
+use Rattle.words.specs.Recording.{Memory, memory, encodeWord, Recorded}
 use Rattle.words.specs.Comparing.{Decision, decisionOf, Compared}
 use Rattle.words.specs.declared.Comparison.{Comparison}
 use Rattle.pairs.specs.Contracts.{treePairOf, wordLengthOf, Paired, Measured}
@@ -150,14 +150,14 @@ demanded-of-exports = record {
 
 -- The record of a word is what an accepted call on it writes.
 writes-record : {u : List ℕ} {m m′ : Memory} {r : Written} (w : Word) (n : ℕ) → Recorded u m m′ r
-    → u ≡ bytesOf w → writtenOf r ≡ accepted n → (length w ≤ limit) × (take n (m′ .buffer) ≡ recordOfWord w)
+    → u ≡ bytesOf w → writtenOf r ≡ accepted n → (length w ≤ limit) × (take n (m′ .buffer) ≡ encodeWord w)
 writes-record {u} {m} w n h b e =
     let call = call-front {w = w} h e b in
     (judged-within u m w (call .judged-so), call .front)
 
 -- The word that is written for a record has that record.
 spells-record : {s t t′ : List ℕ} {r : Written} (n : ℕ) → Spelled s t t′ r → writtenOf r ≡ accepted n
-    → (x : Word) × (take n t′ ≡ bytesOf x) × (length x ≤ limit) × (recordOfWord x ≡ s)
+    → (x : Word) × (take n t′ ≡ bytesOf x) × (length x ≤ limit) × (encodeWord x ≡ s)
 spells-record n h e =
     let f = spelled-as h e in
     let front = front-spelled (f .1) in
@@ -165,7 +165,7 @@ spells-record n h e =
 
 pub one-record : OneRecord
 one-record = record {
-  recordOf = recordOfWord;
+  recordOf = encodeWord;
   equal-just-when-joined = records↔joined;
   written = always-below (calls .word-to-record) (λ κs u u′ b b′ a a′ s s′ r h w n. writes-record w n h);
   exported = always-below (exports .word-to-record) (λ κs u u′ b b′ a a′ s s′ r h w n is e.

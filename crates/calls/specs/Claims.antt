@@ -1,11 +1,11 @@
--- One theorem of all claims: a field for each claim of the repository. proofs/Claims.antt proves it, so that no claim is
--- listed here without its proof. A group gives the file of specs/ that says what its claims are; those of `calls` stand
--- in this crate. A claim that is added anywhere gets its field here. Assumes nothing.
+-- One theorem of all claims: a field for each claim of the repository. proofs/Claims.antt proves it, so that no claim
+-- is listed here without its proof. A group gives the file of specs/ that says what its claims are; those of `calls`
+-- stand in this crate. A claim that is added anywhere gets its field here. Assumes nothing.
 use Rattle.calls.specs.Demanded.{Demanded, DemandedOfExports, OneRecord}
 use Rattle.calls.specs.Calls.{Calls, Exports}
 use Rattle.claims.specs.Demands.{Demand1, Demand2, Demand3}
 use Rattle.claims.specs.Exports.{ExportsAnswerAsCalls}
-use Rattle.claims.specs.Records.{RecordsOfForms, RecordHasOneForm, RecordsAreAccepted}
+use Rattle.claims.specs.Records.{RecordsOfForms, RecordsAreRead, RecordHasOneForm, RecordsAreAccepted}
 use Rattle.claims.specs.Forms.{FormKeepsMap, EqualFormsAreJoined, EqualFormsAreOneMap, ReducedFormIsUnique}
 use Rattle.claims.specs.Forms.{TheFormOfWord, FormIsSmall}
 use Rattle.claims.specs.Sentences.{InverseUndoes, EndsFixed, ZerosIgnored, GeneratorsConjugate, PresentationsAgree}
@@ -35,6 +35,7 @@ pub record Claims : Type 2 where
   pub exports-answer-as-calls : ExportsAnswerAsCalls
   -- Records: claims, Records.
   pub records-of-forms : RecordsOfForms
+  pub records-are-read : RecordsAreRead
   pub record-has-one-form : RecordHasOneForm
   pub records-are-accepted : RecordsAreAccepted
   -- Words and their forms: claims, Forms.

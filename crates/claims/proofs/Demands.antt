@@ -15,7 +15,7 @@ use Rattle.records.specs.Format.{IsRecord}
 use Rattle.records.specs.Reading.{decode}
 use Rattle.records.specs.Checking.{Checked}
 use Rattle.lengths.specs.Weights.{formLength}
-use Rattle.words.specs.Recording.{Memory, recordOfWord, judgedWith, Recorded}
+use Rattle.words.specs.Recording.{Memory, encodeWord, judgedWith, Recorded}
 use Rattle.words.specs.Comparing.{decisionOf, same, different}
 use Rattle.thompson.specs.Codes.{readOutcome, outcomeOf}
 use Rattle.thompson.proofs.Codes.{written-read}
@@ -37,9 +37,9 @@ use Rattle.claims.proofs.SpellingCalls.{joined-spelling, spelling-sent,
 word-refused : {u : List ℕ} {m m′ : Memory} {r : Written} → Recorded u m m′ r
     → Refuses (writtenOf r) (WordRefusal u m) × (IsRefused (writtenOf r) → m′ ≡ m)
 word-refused {u} {m} h = (
-  refuses-when (λ w. length (recordOfWord w)) (judgedWith u m) (h .result) (WordRefusal u m) (judged↔refusal u m),
+  refuses-when (λ w. length (encodeWord w)) (judgedWith u m) (h .result) (WordRefusal u m) (judged↔refusal u m),
   (λ x.
-      let o = is-refused (λ w. length (recordOfWord w)) (judgedWith u m) (h .result) x in
+      let o = is-refused (λ w. length (encodeWord w)) (judgedWith u m) (h .result) x in
       left-refused (o .0) (o .1) (o .2) (h .leaves)),
 )
 

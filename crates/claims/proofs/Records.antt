@@ -11,11 +11,14 @@ use Rattle.records.specs.Faults.{Bytes}
 use Rattle.records.proofs.Accepted.{record-decoded, decoded↔record}
 use Rattle.claims.specs.Refusals.{RecordRefusal}
 use Rattle.claims.specs.Answers.{None}
-use Rattle.claims.specs.Records.{RecordsOfForms, RecordHasOneForm, RecordsAreAccepted}
+use Rattle.claims.specs.Records.{RecordsOfForms, RecordsAreRead, RecordHasOneForm, RecordsAreAccepted}
 use Rattle.claims.proofs.Refusals.{decoded↔refusal}
 
 pub records-of-forms : RecordsOfForms
 records-of-forms = decoded↔record
+
+pub records-are-read : RecordsAreRead
+records-are-read = record-decoded
 
 pub record-has-one-form : RecordHasOneForm
 record-has-one-form s f g h k = accepted-same (sym (record-decoded s f h) ∙ record-decoded s g k)

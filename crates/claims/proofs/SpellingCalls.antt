@@ -31,7 +31,7 @@ use Rattle.records.proofs.Accepted.{decode-form, decode-accepts, record-decoded
 use Rattle.spelling.specs.Spelling.{Spells, spelling}
 use Rattle.spelling.specs.Contracts.{spelledIn, Spelled}
 use Rattle.spelling.proofs.Words.{spells, spells-only}
-use Rattle.words.specs.Recording.{Memory, recordOfWord}
+use Rattle.words.specs.Recording.{Memory, encodeWord}
 use Rattle.claims.specs.Refusals.{ShortTable, ShortBuffer, NoWordRefusal, LongSpelling, ShortWord}
 use Rattle.claims.specs.Refusals.{RecordRefusal, SpellingRefusal, unspelled, longSpelling, shortWord}
 use Rattle.claims.specs.Answers.{IsRefused, Refuses, None}
@@ -231,10 +231,10 @@ spelling-sent {s} {w} {w′} {n} {f} m c tables buffer =
 
 -- The record of the spelling.
 pub spelling-again : {s w w′ : List ℕ} {n : ℕ} {f : Form} (x : Word) → Bytes s → SpelledAs s w w′ n f
-    → take n w′ ≡ bytesOf x → recordOfWord x ≡ s
+    → take n w′ ≡ bytesOf x → encodeWord x ≡ s
 spelling-again {s} {w} {w′} {n} {f} x bytes c a =
     let one : x ≡ spelling f = bytes-injective x (spelling f) (sym a ∙ front-spelled c) in
     let good = decode-form s f (c .reads) in
     let same : f ≡ formOf (spelling f) =
     the-form-joined (spelling f) f (good .0 .reduced) (good .0 .trimmed) (freely-joined (letters f)) in
-    ap recordOfWord one ∙ ap encode (sym same) ∙ sym (decode-accepts s f bytes (c .reads) .0)
+    ap encodeWord one ∙ ap encode (sym same) ∙ sym (decode-accepts s f bytes (c .reads) .0)

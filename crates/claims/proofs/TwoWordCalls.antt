@@ -12,7 +12,7 @@ use Rattle.group.specs.Chains.{Joined}
 use Rattle.refusals.specs.Outcomes.{Outcome, accepted, refused}
 use Rattle.refusals.specs.declared.Written.{Written}
 use Rattle.refusals.specs.declared.Written.the-variants.{Bytes}
-use Rattle.words.specs.Recording.{Memory, judgedWith, recordOfWord, recorded, Left, Recorded}
+use Rattle.words.specs.Recording.{Memory, judgedWith, encodeWord, countRecord, Left, Recorded}
 use Rattle.words.specs.Comparing.{Decision, same, different, refusedWord, decided, decisionOf, sameBytes}
 use Rattle.words.specs.Comparing.{ComparedBy, Compared}
 use Rattle.words.specs.declared.Comparison.{Comparison}
@@ -38,14 +38,14 @@ not-answered (inr e) h = no-refusal false (sym e ∙ h)
 first-word : (o q : Outcome Word) (n p : ℕ) → decided o q ≡ refusedWord 0 n p → o ≡ refused n p
 first-word (refused i j) q n p d = cc
 first-word (accepted w) (refused i j) n p d = absurd (other-word d)
-first-word (accepted w) (accepted x) n p d = absurd (no-refusal (sameBytes (recordOfWord w) (recordOfWord x)) d)
+first-word (accepted w) (accepted x) n p d = absurd (no-refusal (sameBytes (encodeWord w) (encodeWord x)) d)
 
 second-word : (o q : Outcome Word) (n p : ℕ) → decided o q ≡ refusedWord 1 n p
     → ((w : Word) × (o ≡ accepted w)) × (q ≡ refused n p)
 second-word (refused i j) q n p d = absurd (other-word (sym d))
 second-word (accepted w) (refused i j) n p d = ((w, refl), cc)
 second-word (accepted w) (accepted x) n p d =
-    absurd (no-refusal (sameBytes (recordOfWord w) (recordOfWord x)) d)
+    absurd (no-refusal (sameBytes (encodeWord w) (encodeWord x)) d)
 
 -- What is left of the memories, by the two outcomes.
 module _ {m m′ k k′ : Memory} {c : Comparison} where
@@ -55,7 +55,7 @@ module _ {m m′ k k′ : Memory} {c : Comparison} where
   kept-both (refused i j) (accepted x) h d = (left-refused i j refl (h .leaves1), left-refused i j refl (h .leaves2))
   kept-both (accepted w) (refused i j) h d = (left-refused i j refl (h .leaves1), left-refused i j refl (h .leaves2))
   kept-both (accepted w) (accepted x) h (word, n, p, d) =
-      absurd (no-refusal (sameBytes (recordOfWord w) (recordOfWord x)) (sym (h .result) ∙ d))
+      absurd (no-refusal (sameBytes (encodeWord w) (encodeWord x)) (sym (h .result) ∙ d))
 
   -- An answer leaves each as the word's own outcome does.
   left-both : (o q : Outcome Word) → ComparedBy o q m m′ k k′ c → Answered (decisionOf c)
@@ -87,8 +87,8 @@ decides false {d} {P} e j = (((λ s. absurd (never s)), λ p. absurd (none p)), 
 own-call : {u : List ℕ} {m m′ : Memory} → (w : Word) × (judgedWith u m ≡ accepted w) × Left (judgedWith u m) m m′
     → (r : Written) × Recorded u m m′ r
 own-call (w, e, left) = (
-  Bytes (length (recordOfWord w)),
-  record { result = sym (ap (λ (o : Outcome Word). recorded o) e); leaves = left },
+  Bytes (length (encodeWord w)),
+  record { result = sym (ap (λ (o : Outcome Word). countRecord o) e); leaves = left },
 )
 
 module _ (u v : List ℕ) (m m′ k k′ : Memory) (c : Comparison) (h : Compared u m m′ v k k′ c) where
@@ -114,7 +114,7 @@ module _ (u v : List ℕ) (m m′ k k′ : Memory) (c : Comparison) (h : Compare
     (λ r.
         let w = none-accepted u m (r .0) in
         let x = none-accepted v k (r .1) in
-        answered (sameBytes (recordOfWord (w .0)) (recordOfWord (x .0))) (h .result ∙ ap₂ decided (w .1) (x .1))),
+        answered (sameBytes (encodeWord (w .0)) (encodeWord (x .0))) (h .result ∙ ap₂ decided (w .1) (x .1))),
   )
 
   -- What is refused, and that a refusal leaves both memories.
@@ -138,7 +138,7 @@ module _ (u v : List ℕ) (m m′ k k′ : Memory) (c : Comparison) (h : Compare
       → ((decisionOf c ≡ same) ↔ Joined w x) × ((decisionOf c ≡ different) ↔ (Joined w x → ⊥))
   two-decided w x e f =
       let joins = records↔joined w x (judged-within u m w e) (judged-within v k x f) in
-      decides (sameBytes (recordOfWord w) (recordOfWord x)) (h .result ∙ ap₂ decided e f) (
-        (λ t. joins .0 (same-bytes (recordOfWord w) (recordOfWord x) t)),
-        (λ j. ap (λ (l : List ℕ). sameBytes (recordOfWord w) l) (sym (joins .1 j)) ∙ bytes-same (recordOfWord w)),
+      decides (sameBytes (encodeWord w) (encodeWord x)) (h .result ∙ ap₂ decided e f) (
+        (λ t. joins .0 (same-bytes (encodeWord w) (encodeWord x) t)),
+        (λ j. ap (λ (l : List ℕ). sameBytes (encodeWord w) l) (sym (joins .1 j)) ∙ bytes-same (encodeWord w)),
       )

@@ -29,7 +29,7 @@ use Rattle.records.proofs.ReadBack.{encode-injective}
 use Rattle.records.proofs.Accepted.{decode-encode}
 use Rattle.records.proofs.Lengths.{encode-size}
 use Rattle.forest.specs.Filling.{tableAfter}
-use Rattle.words.specs.Recording.{Memory, memory, judgedWith, recordOfWord, recorded, bufferAfter, Left, Recorded}
+use Rattle.words.specs.Recording.{Memory, memory, judgedWith, encodeWord, countRecord, bufferAfter, Left, Recorded}
 use Rattle.words.specs.Recording.{WordWritten}
 use Rattle.words.proofs.Judged.{accepted-record}
 use Rattle.words.proofs.Compared.{front-record}
@@ -64,7 +64,7 @@ judged-within u m w e =
 
 -- Two words within the limit have one record just when a chain joins them.
 pub records↔joined : (w x : Word) → length w ≤ limit → length x ≤ limit
-    → (recordOfWord w ≡ recordOfWord x) ↔ Joined w x
+    → (encodeWord w ≡ encodeWord x) ↔ Joined w x
 records↔joined w x few few′ = (
   (λ same.
       forms↔joined w x .0
@@ -84,14 +84,14 @@ pub call-of : {u : List ℕ} {m m′ : Memory} {r : Written} {n : ℕ} → Recor
 call-of {u} {m} {m′} {r} {n} h e = go (judge-word u m)
   where
     go : Judged u m → CallOf u m m′ n
-    go (refuses k p c j) = absurd (accepted-refused (sym e ∙ h .result ∙ ap (λ (o : Outcome Word). recorded o) j))
+    go (refuses k p c j) = absurd (accepted-refused (sym e ∙ h .result ∙ ap (λ (o : Outcome Word). countRecord o) j))
     go (accepts w b c j) = record { word = w; bytes = b; judged-so = j }
 
 -- The same for the word that the bytes are.
 pub record FrontOf (u : List ℕ) (m m′ : Memory) (n : ℕ) (w : Word) : Type 0 where
   pub judged-so : judgedWith u m ≡ accepted w
-  pub count : n ≡ length (recordOfWord w)
-  pub front : take n (m′ .buffer) ≡ recordOfWord w
+  pub count : n ≡ length (encodeWord w)
+  pub front : take n (m′ .buffer) ≡ encodeWord w
 
 pub call-front : {u : List ℕ} {m m′ : Memory} {r : Written} {n : ℕ} {w : Word} → Recorded u m m′ r
     → writtenOf r ≡ accepted n → u ≡ bytesOf w → FrontOf u m m′ n w
@@ -101,14 +101,14 @@ call-front {u} {m} {m′} {r} {n} {w} h e b = go (judge-word u m)
     written = record { result = sym e ∙ h .result; leaves = h .leaves }
 
     go : Judged u m → FrontOf u m m′ n w
-    go (refuses k p c j) = absurd (accepted-refused (sym e ∙ h .result ∙ ap (λ (o : Outcome Word). recorded o) j))
+    go (refuses k p c j) = absurd (accepted-refused (sym e ∙ h .result ∙ ap (λ (o : Outcome Word). countRecord o) j))
     go (accepts v a c j) =
         let so = judged-accepted u m w c b in
         let front = front-record u m m′ n (record { letters = w; judged-so = so }) written in
         record { judged-so = so; count = front .0; front = front .1 }
 
 -- The record of a word within the limit is read as the form of the word.
-pub read-record : (w : Word) → length w ≤ limit → decode (recordOfWord w) ≡ accepted (formOf w)
+pub read-record : (w : Word) → length w ≤ limit → decode (encodeWord w) ≡ accepted (formOf w)
 read-record w short = decode-encode (formOf w) (form-canonical w) (form-within w short)
 
 -- So is the record that an accepted call writes.
@@ -120,7 +120,7 @@ recorded-form {u} {m} {m′} {r} {n} w h e b =
 
 -- Its record lies inside the buffer.
 record-fits : (u : List ℕ) (m : Memory) (w : Word) → judgedWith u m ≡ accepted w
-    → 0 + length (recordOfWord w) ≤ length (m .buffer)
+    → 0 + length (encodeWord w) ≤ length (m .buffer)
 record-fits u m w so =
     let fit = accepted-record u (length (m .b)) (length (m .a)) (length (m .buffer)) w so in
     omega (arith, encode-size (formOf w), form-sum w, fit .roomy, read-length u w (fit .fit .reads))
@@ -148,7 +148,7 @@ call-keeps-map {u} {m} {m′} {r} {n} {w} h e b =
     h .leaves .b-table ∙ ap (λ (o : Outcome Word). tableAfter bSide o (m .b)) so in
     let ta : m′ .a ≡ filled (length w + 1) (exponent aSide (formOf w)) (m .a) =
     h .leaves .a-table ∙ ap (λ (o : Outcome Word). tableAfter aSide o (m .a)) so in
-    let fits : 0 + length (recordOfWord w) ≤ length (m .buffer) = record-fits u m w so in
+    let fits : 0 + length (encodeWord w) ≤ length (m .buffer) = record-fits u m w so in
     record {
       form = formOf w;
       bytes = call .front;
@@ -169,6 +169,6 @@ call-keeps-map {u} {m} {m′} {r} {n} {w} h e b =
         table-beyond w bSide (m .b) (m′ .b) tb,
         table-beyond w aSide (m .a) (m′ .a) ta,
         ap (drop n) (h .leaves .bytes ∙ ap (λ (o : Outcome Word). bufferAfter o (m .buffer)) so)
-            ∙ sets-beyond (recordOfWord w) (m .buffer) n (sym (call .count)) (omega (arith, fits, call .count)),
+            ∙ sets-beyond (encodeWord w) (m .buffer) n (sym (call .count)) (omega (arith, fits, call .count)),
       );
     }

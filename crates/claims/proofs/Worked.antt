@@ -20,14 +20,14 @@ use Rattle.group.proofs.Reduced.{form-reduced}
 use Rattle.group.proofs.Theorems.{joined-map}
 use Rattle.group.proofs.NoStep.{reduced-no-step}
 use Rattle.refusals.specs.Outcomes.{Outcome, accepted, refused, valued, then}
-use Rattle.records.specs.Reading.{firstBreak, reducedForm, decode}
+use Rattle.records.specs.Reading.{findBreak, reducedForm, decode}
 use Rattle.records.specs.Faults.{formRead}
 use Rattle.records.proofs.ReadBack.{form-encode}
 use Rattle.trees.specs.Pairs.{caretsOf}
 use Rattle.lengths.specs.Weights.{formLength}
 use Rattle.spelling.specs.Spelling.{spelling}
 use Rattle.spelling.specs.Contracts.{wordIn}
-use Rattle.words.specs.Recording.{recordOfWord}
+use Rattle.words.specs.Recording.{encodeWord}
 use Rattle.receipts.specs.Text.{ascii, decimalWithin}
 use Rattle.receipts.specs.Receipts.{outputOf}
 use Rattle.claims.specs.Worked.{unreduced, unreducedRecord, deadEnd, deadEndRecord, Measures, IsSpelled}
@@ -56,14 +56,14 @@ record-unreduced-form = form-encode unreduced (omega arith) (record { indices = 
     low s (suc (suc zero)) h = omega arith
     low s (suc (suc (suc i))) h = absurd (omega arith)
 
-first-unreduced : firstBreak unreduced 0 (suc limit) ≡ refused 5 0
-unfolding firstBreak
+first-unreduced : findBreak unreduced 0 (suc limit) ≡ refused 5 0
+unfolding findBreak
 first-unreduced = refl
 
 record-unreduced : decode unreducedRecord ≡ refused 5 0
 record-unreduced =
     let entries : decode unreducedRecord ≡ reducedForm unreducedRecord = refl in
-    entries ∙ ap (λ (f : Form). firstBreak f 0 (suc limit)) record-unreduced-form ∙ first-unreduced
+    entries ∙ ap (λ (f : Form). findBreak f 0 (suc limit)) record-unreduced-form ∙ first-unreduced
 
 -- The letters of that form are b, freely reduced.
 unreduced-map : SameMap (letters unreduced) ('b ∷ [])
@@ -72,7 +72,7 @@ unreduced-map =
 
 -- The record of a word is read; N and the length are computed from the word's form.
 measured : (w : Word) (n l : ℕ) → length w ≤ limit → caretsOf (formOf w) ≡ n → formLength (formOf w) ≡ l
-    → Measures (recordOfWord w) n l
+    → Measures (encodeWord w) n l
 measured w n l short en el =
     let read = read-record w short in
     record {

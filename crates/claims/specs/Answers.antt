@@ -1,5 +1,6 @@
 -- What the demands say of every call's answer (01, 'Who caused the refusal'): it is a refusal just under that refusal's
--- condition. The conditions are given by a relation R: R number place is that of the refusal with this number and place.
+-- condition. The conditions are given by a relation R: R number place is that of the refusal with this number and
+-- place.
 --     None R                      no condition holds
 --     IsRefused o, IsAccepted o   the outcome o is a refusal; a value
 --     Refuses o R                 o is a refusal just under its condition, and a value where none holds

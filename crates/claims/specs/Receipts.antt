@@ -1,7 +1,7 @@
 -- The receipt program (01, 'The receipt program'), over the contracts of its calls; proofs/Receipts.antt has the
 -- proofs, under the same names in small letters with hyphens. What the claims speak of, and where it is defined:
 --     linesOf s            the lines of the bytes s; joinLines, lineFeed, cutTo, wholeOf        lines, Lines
---     met, metIn           the lines that are met in a part, in the parts of an input           lines, Feeding
+--     meetLines, metIn     the lines that are met in a part, in the parts of an input           lines, Feeding
 --     receiptOf k line     the receipt of line k; receiptsFrom, header, outputOf                receipts, Receipts
 --     served s k line held what becomes of a part: its receipts, and what is kept               receipts, Serving
 --     Begun, ServedPart, Finished   the contracts of begin, serve and finish                    receipts, Contracts
@@ -17,7 +17,7 @@ use Rattle.group.specs.Limits.{limit}
 use Rattle.refusals.specs.Outcomes.{accepted, writtenOf}
 use Rattle.refusals.specs.declared.Written.{Written}
 use Rattle.lines.specs.Lines.{lineFeed, linesOf, joinLines, cutTo, wholeOf}
-use Rattle.lines.specs.Feeding.{met, metIn}
+use Rattle.lines.specs.Feeding.{meetLines, metIn}
 use Rattle.receipts.specs.Receipts.{receiptOf, receiptsFrom, outputOf}
 use Rattle.receipts.specs.Serving.{served}
 use Rattle.receipts.specs.Contracts.{Begun, ServedPart, Finished, servingOf}
@@ -43,10 +43,10 @@ LinesInParts =
 -- the line buffer and the count as they are left there.
 pub record ServesMetLines : Type 0 where
   pub receipts : (s : List ℕ) (number : ℕ) (line : List ℕ) (held : ℕ) → number + length s ≤ 2 ^ 64
-      → served s number line held .receipts ≡ receiptsFrom number (met s line held .lines)
+      → served s number line held .receipts ≡ receiptsFrom number (meetLines s line held .lines)
   pub leaves : (s : List ℕ) (number : ℕ) (line : List ℕ) (held : ℕ)
-      → (served s number line held .line ≡ met s line held .line)
-      × (served s number line held .held ≡ met s line held .held)
+      → (served s number line held .line ≡ meetLines s line held .line)
+      × (served s number line held .held ≡ meetLines s line held .held)
 
 -- A line cut to one byte more than the limit has the receipt of the whole line.
 abbrev pub CutKeepsReceipt : Type 0

@@ -17,9 +17,13 @@ use Rattle.records.specs.Faults.{Bytes}
 use Rattle.claims.specs.Refusals.{RecordRefusal}
 use Rattle.claims.specs.Answers.{None}
 
--- What is read is the record of the form that is read, and the record of a form is read as that form.
+-- Bytes are read as a form just when they are the record of that form.
 abbrev pub RecordsOfForms : Type 0
 RecordsOfForms = (s : List ℕ) (f : Form) → Bytes s → (decode s ≡ accepted f) ↔ IsRecord s f
+
+-- The record of a form is read as that form; that it is bytes need not be said.
+abbrev pub RecordsAreRead : Type 0
+RecordsAreRead = (s : List ℕ) (f : Form) → IsRecord s f → decode s ≡ accepted f
 
 -- A record is the record of one form.
 abbrev pub RecordHasOneForm : Type 0

@@ -1,13 +1,13 @@
 -- The sentences of 01, 'The tree pair and the length', beside the definitions: a claim each; proofs/Trees.antt has the
 -- proofs, under the same names in small letters with hyphens. What the claims speak of, and where it is defined:
---     Tree, carets t, Address    trees; N; the way down from the root, by edges                 trees, Trees
---     Leaf t k u, Caret t k v    leaf k and caret k by their addresses                          trees, Trees
---     LeafExponent, HasExponents the exponents of leaves, by 000, definition 2.7                trees, Exponents
---     Pair, SmallestPair         trees of one size with the exponents a and b; the smallest     trees, Pairs
---     minusTree f, plusTree f    T− and T+, with caretsOf f carets                              trees, Pairs
+--     Tree, carets t, Address      trees; N; the way down from the root, by edges                 trees, Trees
+--     IsLeaf t k u, IsCaret t k v  leaf k and caret k by their addresses                          trees, Trees
+--     LeafExponent, HasExponents   the exponents of leaves, by 000, definition 2.7                trees, Exponents
+--     Pair, SmallestPair           trees of one size with the exponents a and b; the smallest     trees, Pairs
+--     minusTree f, plusTree f      T− and T+, with caretsOf f carets                              trees, Pairs
 --     Redundant, SendsLeaves, InLeaf   000, definition 2.4; the map of a pair                   trees, Pairs
 --     shape t, Node t k u, subtreeEnd  bytes, nodes by number, where a subtree ends             trees, Shapes
---     IsKind t k x, Kind         caret k is of kind x, by 01's sentences                        lengths, Kinds
+--     IsKind t k x, Kind           caret k is of kind x, by 01's sentences                        lengths, Kinds
 --     weight x y; tableEntry i j   Fordham's table; the constant of the code, by row and column lengths, Weights
 -- Assumes nothing.
 use mathlib.Core.Path.{_≡_}
@@ -20,7 +20,7 @@ use Rattle.group.specs.Points.{Digit, 𝟎, 𝟏}
 use Rattle.group.specs.Forms.{Form, empty, exponentSum, levels}
 use Rattle.group.specs.Limits.{limit}
 use Rattle.group.specs.Reducing.{Reduced}
-use Rattle.trees.specs.Trees.{Tree, leaf, carets, Address, leaves, Leaf, caretPlaces, Caret, Subtree}
+use Rattle.trees.specs.Trees.{Tree, leaf, carets, Address, leaves, IsLeaf, caretPlaces, IsCaret, Subtree}
 use Rattle.trees.specs.Exponents.{leftEdges, rightEdges}
 use Rattle.trees.specs.Pairs.{caretsOf, minusTree, plusTree, Pair, SmallestPair, Redundant, SendsLeaves, InLeaf}
 use Rattle.trees.specs.Shapes.{shape, Node, subtreeEnd}
@@ -32,8 +32,8 @@ use Rattle.lengths.specs.Weights.{weight, tableEntry, weights, pairLength}
 pub record LeavesAndCarets : Type 0 where
   pub leaves-numbered : (t : Tree) → length (leaves t) ≡ suc (carets t)
   pub carets-numbered : (t : Tree) → length (caretPlaces t) ≡ carets t
-  pub between : (t : Tree) (k : ℕ) (v : Address) → Caret t k v
-      → (m n : ℕ) × Leaf t k (v ++ (𝟎 ∷ rightEdges m)) × Leaf t (suc k) (v ++ (𝟏 ∷ leftEdges n))
+  pub between : (t : Tree) (k : ℕ) (v : Address) → IsCaret t k v
+      → (m n : ℕ) × IsLeaf t k (v ++ (𝟎 ∷ rightEdges m)) × IsLeaf t (suc k) (v ++ (𝟏 ∷ leftEdges n))
 
 -- T− has the exponents a, T+ the exponents b, both with the same, smallest possible N, and no other pair has them. The
 -- empty form has two single leaves. N never exceeds 2 · limit + 1, which is 8,193.

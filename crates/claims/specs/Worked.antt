@@ -1,7 +1,7 @@
 -- The lines of 01, 'Worked at the desk', that are marked P, as the rows of one claim, over the definitions that the
--- calls' contracts cite, with what 01 prints elsewhere. A comment gives the line of each row. Pairs (i, e) are an index and its exponent, as in 01: a
--- record is written by its two sides, or byte by byte where 01 prints its bytes; a form by its levels,
--- `level b_0 a_0 (level b_1 a_1 …)`. N and the length of a word are those of its record.
+-- calls' contracts cite, with what 01 prints elsewhere. A comment gives the line of each row. Pairs (i, e) are an index
+-- and its exponent, as in 01: a record is written by its two sides, or byte by byte where 01 prints its bytes; a form
+-- by its levels, `level b_0 a_0 (level b_1 a_1 …)`. N and the length of a word are those of its record.
 --     Worked        01's lines marked P, the limit, the printed table of weights, the relators, and a whole receipt
 --     WorkedForms   the same lines of forms, and 000's Table 4
 --     HasForm t f, HasRecord t s   the text t is a word, with the form f, with the record s
@@ -31,7 +31,7 @@ use Rattle.lengths.specs.Kinds.{Kind, L0, LL, RI, RN, R0, I0, IR, kinds}
 use Rattle.lengths.specs.Weights.{weight, formLength}
 use Rattle.spelling.specs.Spelling.{spelling}
 use Rattle.spelling.specs.Contracts.{spelledIn}
-use Rattle.words.specs.Recording.{recordOfWord}
+use Rattle.words.specs.Recording.{encodeWord}
 use Rattle.receipts.specs.Text.{ascii}
 use Rattle.receipts.specs.Receipts.{outputOf}
 
@@ -41,7 +41,7 @@ HasForm t f = Option·map formOf (wordOf t) ≡ some f
 
 -- The text is a word, and the bytes are the record that is written for it.
 abbrev pub HasRecord : String → List ℕ → Type 0
-HasRecord t s = Option·map recordOfWord (wordOf t) ≡ some s
+HasRecord t s = Option·map encodeWord (wordOf t) ≡ some s
 
 -- The record with the powers of the b side and of the a side.
 abbrev pub sides : List Power → List Power → List ℕ

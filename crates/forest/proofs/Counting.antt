@@ -1,25 +1,25 @@
--- Leaves only go: how many there are behind the first leaves of a row. Assumes nothing.
+-- Tips only go: how many there are behind the first tips of a row. Assumes nothing.
 use mathlib.Core.List.{List, [], _∷_}
 use Prim.Native.Nat.{ℕ, zero, suc, _+_, _≤_, _<_}
 use native.Mathlib.Omega.{arith}
-use Rattle.forest.specs.Forest.{Tree, leaf, caret, firstTree, laterTrees, putTree, treesBehind}
-use Rattle.forest.specs.Forest.{leaves, forestLeaves}
-use Rattle.forest.proofs.Irreducible.{put-leaves}
-use Rattle.forest.proofs.ReadOff.{treesFrom}
+use Rattle.forest.specs.inside.Forest.{Bush, tip, fork, firstBush, laterBushes, putBush, bushesBehind}
+use Rattle.forest.specs.inside.Forest.{tips, forestTips}
+use Rattle.forest.proofs.Irreducible.{put-tips}
+use Rattle.forest.proofs.ReadOff.{bushesFrom}
 
-pub leaves-some : (t : Tree) → 0 < leaves t
-leaves-some (leaf n) = omega arith
-leaves-some (caret x y) = omega (arith, leaves-some x)
+pub tips-some : (t : Bush) → 0 < tips t
+tips-some (tip n) = omega arith
+tips-some (fork x y) = omega (arith, tips-some x)
 
-behind-leaves : (t : Tree) (ts : List Tree) → forestLeaves (treesBehind t ts) + 1 ≤ leaves t + forestLeaves ts
-behind-leaves (leaf n) ts = omega arith
-behind-leaves (caret x y) ts = omega (arith, behind-leaves x (putTree y ts), put-leaves y ts)
+behind-tips : (t : Bush) (ts : List Bush) → forestTips (bushesBehind t ts) + 1 ≤ tips t + forestTips ts
+behind-tips (tip n) ts = omega arith
+behind-tips (fork x y) ts = omega (arith, behind-tips x (putBush y ts), put-tips y ts)
 
-forest-behind-leaves : (ts : List Tree)
-    → forestLeaves (treesBehind (firstTree ts) (laterTrees ts)) ≤ forestLeaves ts
-forest-behind-leaves [] = omega arith
-forest-behind-leaves (t ∷ ts) = omega (arith, behind-leaves t ts)
+forest-behind-tips : (ts : List Bush)
+    → forestTips (bushesBehind (firstBush ts) (laterBushes ts)) ≤ forestTips ts
+forest-behind-tips [] = omega arith
+forest-behind-tips (t ∷ ts) = omega (arith, behind-tips t ts)
 
-pub from-leaves : (i : ℕ) (ts : List Tree) → forestLeaves (treesFrom i ts) ≤ forestLeaves ts
-from-leaves zero ts = omega arith
-from-leaves (suc i) ts = omega (arith, forest-behind-leaves (treesFrom i ts), from-leaves i ts)
+pub from-tips : (i : ℕ) (ts : List Bush) → forestTips (bushesFrom i ts) ≤ forestTips ts
+from-tips zero ts = omega arith
+from-tips (suc i) ts = omega (arith, forest-behind-tips (bushesFrom i ts), from-tips i ts)

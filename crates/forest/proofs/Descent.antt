@@ -1,4 +1,4 @@
--- The walk down the left edges of a tree: at each turn a tree is held whose first leaf, and the trees behind it, are
+-- The walk down the left edges of a bush: at each turn a bush is held whose first tip, and the bushes behind it, are
 -- those of the whole. Assumes nothing.
 use mathlib.Core.Path.{_≡_, refl, sym, _∙_, subst, ap}
 use mathlib.Core.List.{List}
@@ -7,12 +7,12 @@ use native.Mathlib.Omega.{arith}
 use lib.ListN.{getD, length}
 use Rattle.group.specs.Limits.{limit}
 use Rattle.forest.specs.Filling.{cells, room}
-use Rattle.forest.specs.Forest.{Tree, leaf, caret, putTree, leftEdges, leafExponent, treesBehind}
-use Rattle.forest.specs.Forest.{leaves, forestLeaves}
-use Rattle.forest.specs.Cells.{Stands, StackStands, Pushed}
-use Rattle.forest.specs.Leaves.{Below, Walked, Walking, StemPassed, Standing, LeafRead}
-use Rattle.forest.proofs.Irreducible.{put-leaves}
-use Rattle.forest.proofs.Counting.{leaves-some}
+use Rattle.forest.specs.inside.Forest.{Bush, tip, fork, putBush, tipEdges, tipExponent, bushesBehind}
+use Rattle.forest.specs.inside.Forest.{tips, forestTips}
+use Rattle.forest.specs.inside.Cells.{Stands, StackStands, Pushed}
+use Rattle.forest.specs.inside.Leaves.{DownLeft, Walked, Walking, StemPassed, Standing, TipRead}
+use Rattle.forest.proofs.Irreducible.{put-tips}
+use Rattle.forest.proofs.Counting.{tips-some}
 use Rattle.forest.proofs.Stored.{stands-below, stands-more, stack-height, push-none}
 
 -- At the start nothing is passed.
@@ -21,18 +21,18 @@ walk-starts lefts rights whole height stack = record {
   same = refl;
   falls = omega arith;
   walked = λ t ts p s. record {
-    tree = t;
+    bush = t;
     behind = ts;
     stands = p;
     stack-stands = s;
-    below = record { to-edges = omega arith; to-exponent = refl; to-behind = refl; to-leaves = omega arith };
+    below = record { to-edges = omega arith; to-exponent = refl; to-behind = refl; to-tips = omega arith };
   };
 }
 
 pub standing-below : {lefts rights stack : List ℕ} {code height : ℕ} → Standing lefts rights stack code height
     → code < cells
 standing-below {lefts} {rights} {stack} {code} s =
-    stands-below lefts rights cells (s .tree) code (omega arith) (s .stands)
+    stands-below lefts rights cells (s .bush) code (omega arith) (s .stands)
 
 -- What a turn asks: the code is a cell, the stack has room, and the next code is lower.
 pub record Turn (lefts : List ℕ) (code height : ℕ) : Type 0 where
@@ -40,27 +40,27 @@ pub record Turn (lefts : List ℕ) (code height : ℕ) : Type 0 where
   pub height-high : height < room
   pub lower : getD lefts code 0 < code
 
-turn : (lefts rights stack : List ℕ) (code height : ℕ) (t : Tree) (ts : List Tree) → limit < code
+turn : (lefts rights stack : List ℕ) (code height : ℕ) (t : Bush) (ts : List Bush) → limit < code
     → Stands lefts rights cells t code → StackStands lefts rights cells ts stack height
-    → leaves t + forestLeaves ts ≤ room → Turn lefts code height
-turn lefts rights stack code height (leaf n) ts p h s q = absurd (omega (arith, h .0, h .1))
-turn lefts rights stack code height (caret x y) ts p h s q = record {
+    → tips t + forestTips ts ≤ room → Turn lefts code height
+turn lefts rights stack code height (tip n) ts p h s q = absurd (omega (arith, h .0, h .1))
+turn lefts rights stack code height (fork x y) ts p h s q = record {
   code-high = h .1;
-  height-high = omega (arith, stack-height lefts rights cells ts stack height s, leaves-some x, leaves-some y);
+  height-high = omega (arith, stack-height lefts rights cells ts stack height s, tips-some x, tips-some y);
   lower = stands-below lefts rights code x (getD lefts code 0) p (h .2);
 }
 
 module _ {lefts rights stack₀ : List ℕ} {whole low : ℕ} {stack : List ℕ} {code edges height : ℕ}
     (w : Walking lefts rights stack₀ whole low stack code edges height) where
-  -- From a caret to its left part; k is the code as an index.
-  down : {stack′ : List ℕ} {height′ : ℕ} (t : Tree) (ts : List Tree) (u : Tree) (us : List Tree) (k : ℕ) → k ≡ code
+  -- From a fork to its left part; k is the code as an index.
+  down : {stack′ : List ℕ} {height′ : ℕ} (t : Bush) (ts : List Bush) (u : Bush) (us : List Bush) (k : ℕ) → k ≡ code
       → limit < code → Pushed stack height (getD rights k 0) stack′ height′ → Stands lefts rights cells u code
-      → StackStands lefts rights cells us stack height → Below t ts u us edges
+      → StackStands lefts rights cells us stack height → DownLeft t ts u us edges
       → Walked lefts rights t ts stack′ (getD lefts k 0) (edges + 1) height′
-  down t ts (leaf n) us k e p q h s b = absurd (omega (arith, h .0, h .1))
-  down t ts (caret x y) us k e p q h s b = record {
-    tree = x;
-    behind = putTree y us;
+  down t ts (tip n) us k e p q h s b = absurd (omega (arith, h .0, h .1))
+  down t ts (fork x y) us k e p q h s b = record {
+    bush = x;
+    behind = putBush y us;
     stands =
         stands-more lefts rights code cells x (getD lefts k 0) (omega (arith, h .1))
         (subst (λ (j : ℕ). Stands lefts rights code x (getD lefts j 0)) (sym e) (h .2));
@@ -73,27 +73,27 @@ module _ {lefts rights stack₀ : List ℕ} {whole low : ℕ} {stack : List ℕ}
       to-edges = omega (arith, b .to-edges);
       to-exponent = b .to-exponent;
       to-behind = b .to-behind;
-      to-leaves = omega (arith, b .to-leaves, put-leaves y us);
+      to-tips = omega (arith, b .to-tips, put-tips y us);
     };
   }
 
-  at-leaf : (t : Tree) (ts : List Tree) (u : Tree) (us : List Tree) → code ≤ limit → Stands lefts rights cells u code
-      → StackStands lefts rights cells us stack height → Below t ts u us edges
-      → (edges ≡ leftEdges t)
-      × (code ≡ leafExponent t)
-      × StackStands lefts rights cells (treesBehind t ts) stack height
-  at-leaf t ts (leaf n) us p h s b = (
+  at-tip : (t : Bush) (ts : List Bush) (u : Bush) (us : List Bush) → code ≤ limit → Stands lefts rights cells u code
+      → StackStands lefts rights cells us stack height → DownLeft t ts u us edges
+      → (edges ≡ tipEdges t)
+      × (code ≡ tipExponent t)
+      × StackStands lefts rights cells (bushesBehind t ts) stack height
+  at-tip t ts (tip n) us p h s b = (
     omega (arith, b .to-edges),
     h .0 ∙ b .to-exponent,
-    subst (λ (l : List Tree). StackStands lefts rights cells l stack height) (b .to-behind) s,
+    subst (λ (l : List Bush). StackStands lefts rights cells l stack height) (b .to-behind) s,
   )
-  at-leaf t ts (caret x y) us p h s b = absurd (omega (arith, h .0))
+  at-tip t ts (fork x y) us p h s b = absurd (omega (arith, h .0))
 
   pub walk-turn : Standing lefts rights stack₀ whole low → limit < code → Turn lefts code height
   walk-turn s p =
-      let v = w .walked (s .tree) (s .behind) (s .stands) (s .stack-stands) in
-      turn lefts rights stack code height (v .tree) (v .behind) p (v .stands) (v .stack-stands)
-      (omega (arith, v .below .to-leaves, s .few))
+      let v = w .walked (s .bush) (s .behind) (s .stands) (s .stack-stands) in
+      turn lefts rights stack code height (v .bush) (v .behind) p (v .stands) (v .stack-stands)
+      (omega (arith, v .below .to-tips, s .few))
 
   pub walk-more : {stack′ : List ℕ} {height′ : ℕ} (k : ℕ) → k ≡ code → limit < code → getD lefts code 0 < code
       → length stack′ ≡ length stack → Pushed stack height (getD rights k 0) stack′ height′
@@ -105,15 +105,15 @@ module _ {lefts rights stack₀ : List ℕ} {whole low : ℕ} {stack : List ℕ}
         omega (arith, w .falls);
     walked = λ t ts g s.
         let v = w .walked t ts g s in
-        down t ts (v .tree) (v .behind) k e p q (v .stands) (v .stack-stands) (v .below);
+        down t ts (v .bush) (v .behind) k e p q (v .stands) (v .stack-stands) (v .below);
   }
 
-  pub walk-ends : code ≤ limit → LeafRead lefts rights stack₀ whole low stack edges code height
+  pub walk-ends : code ≤ limit → TipRead lefts rights stack₀ whole low stack edges code height
   walk-ends p t ts g s =
       let v = w .walked t ts g s in
-      at-leaf t ts (v .tree) (v .behind) p (v .stands) (v .stack-stands) (v .below)
+      at-tip t ts (v .bush) (v .behind) p (v .stands) (v .stack-stands) (v .below)
 
--- Down one cell of a stem, with no tree behind it.
+-- Down one cell of a stem, with no bush behind it.
 pub walk-stem : {lefts rights : List ℕ} {whole height code : ℕ} → StemPassed lefts rights whole height code
     → (k : ℕ) → k ≡ code → limit < code → height ≡ 0 → getD rights k 0 ≡ 0 → getD lefts k 0 ≡ code - 1
     → StemPassed lefts rights whole height (code - 1)

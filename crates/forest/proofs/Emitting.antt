@@ -1,4 +1,4 @@
--- The read-off: the stack holds the trees behind the first i leaves, and the first i entries of the tables are the
+-- The read-off: the stack holds the bushes behind the first i tips, and the first i entries of the tables are the
 -- form's exponents. Assumes nothing.
 use mathlib.Core.Path.{_≡_, refl, sym, _∙_, subst}
 use mathlib.Core.List.{List, [], _∷_}
@@ -13,13 +13,13 @@ use Rattle.group.specs.Products.{formOf}
 use Rattle.group.specs.Limits.{limit}
 use Rattle.group.proofs.Sizes.{form-index}
 use Rattle.forest.specs.Filling.{cells, room}
-use Rattle.forest.specs.Forest.{Tree, firstTree, laterTrees, rowOf, leaves, forestLeaves}
-use Rattle.forest.specs.Cells.{StackStands, Popped}
-use Rattle.forest.specs.Moves.{stepWord}
-use Rattle.forest.specs.Leaves.{Standing, LeafRead, treesOf, Piled, LongTables, LevelsRead}
-use Rattle.forest.proofs.Irreducible.{row-irreducible, trees-leaves}
-use Rattle.forest.proofs.ReadOff.{treesFrom, row-exponent, levels-behind}
-use Rattle.forest.proofs.Counting.{from-leaves}
+use Rattle.forest.specs.inside.Forest.{Bush, firstBush, laterBushes, rowOfWord, tips, forestTips}
+use Rattle.forest.specs.inside.Cells.{StackStands, Popped}
+use Rattle.forest.specs.inside.Moves.{stepWord}
+use Rattle.forest.specs.inside.Leaves.{Standing, TipRead, bushesOf, Piled, LongTables, LevelsRead}
+use Rattle.forest.proofs.Irreducible.{row-irreducible, bushes-tips}
+use Rattle.forest.proofs.ReadOff.{bushesFrom, row-exponent, levels-behind}
+use Rattle.forest.proofs.Counting.{from-tips}
 use Rattle.forest.proofs.Stored.{stack-height, stack-none}
 use Rattle.forest.proofs.Running.{step-length}
 
@@ -29,7 +29,7 @@ pub record Emitting (word lefts rights b₀ a₀ stack b a : List ℕ) (height i
   pub stack-length : length stack ≡ room
   pub b-length : length b ≡ length b₀
   pub a-length : length a ≡ length a₀
-  pub stack-stands : StackStands lefts rights cells (treesFrom i (treesOf word)) stack height
+  pub stack-stands : StackStands lefts rights cells (bushesFrom i (bushesOf word)) stack height
   pub b-table : b ≡ filled i (exponent bSide (formOf (stepWord word))) b₀
   pub a-table : a ≡ filled i (exponent aSide (formOf (stepWord word))) a₀
 
@@ -46,22 +46,22 @@ emit-starts {word} b a p = record {
   a-table = filled-none (exponent aSide (formOf (stepWord word))) a;
 }
 
-first-few : (ts : List Tree) → forestLeaves ts ≤ room → leaves (firstTree ts) + forestLeaves (laterTrees ts) ≤ room
+first-few : (ts : List Bush) → forestTips ts ≤ room → tips (firstBush ts) + forestTips (laterBushes ts) ≤ room
 first-few [] h = omega arith
 first-few (t ∷ ts) h = h
 
 module _ {word lefts rights b₀ a₀ stack b a : List ℕ} {height i : ℕ}
     (w : Emitting word lefts rights b₀ a₀ stack b a height i) where
-  abbrev left : List Tree
-  left = treesFrom i (treesOf word)
+  abbrev left : List Bush
+  left = bushesFrom i (bushesOf word)
 
-  few : forestLeaves left ≤ room
+  few : forestTips left ≤ room
   few =
       let v = stepWord word in
       omega (
         arith,
-        from-leaves i (treesOf word),
-        trees-leaves (length v) (rowOf v) (row-irreducible v),
+        from-tips i (bushesOf word),
+        bushes-tips (length v) (rowOfWord v) (row-irreducible v),
         step-length word,
         w .short,
       )
@@ -70,28 +70,28 @@ module _ {word lefts rights b₀ a₀ stack b a : List ℕ} {height i : ℕ}
   emit-height =
       omega (arith, stack-height lefts rights cells left stack height (w .stack-stands), few, w .stack-length)
 
-  pub emit-standing : (tree height′ : ℕ) → length lefts ≡ cells → length rights ≡ cells
-      → Popped stack height tree height′ → Standing lefts rights stack tree height′
-  emit-standing tree height′ el er p =
+  pub emit-standing : (bush height′ : ℕ) → length lefts ≡ cells → length rights ≡ cells
+      → Popped stack height bush height′ → Standing lefts rights stack bush height′
+  emit-standing bush height′ el er p =
       let q = p lefts rights cells left (w .stack-stands) in
       record {
         lefts-length = el;
         rights-length = er;
         stack-length = w .stack-length;
-        tree = firstTree left;
-        behind = laterTrees left;
+        bush = firstBush left;
+        behind = laterBushes left;
         stands = q .0;
         stack-stands = q .1;
         few = first-few left few;
       }
 
-  pub emit-more : (tree height′ : ℕ) (stack′ : List ℕ) (edges exponent′ height″ : ℕ) → i ≤ length word
-      → LongTables word b₀ a₀ → length stack′ ≡ length stack → Popped stack height tree height′
-      → LeafRead lefts rights stack tree height′ stack′ edges exponent′ height″
+  pub emit-more : (bush height′ : ℕ) (stack′ : List ℕ) (edges exponent′ height″ : ℕ) → i ≤ length word
+      → LongTables word b₀ a₀ → length stack′ ≡ length stack → Popped stack height bush height′
+      → TipRead lefts rights stack bush height′ stack′ edges exponent′ height″
       → Emitting word lefts rights b₀ a₀ stack′ (set b i edges) (set a i exponent′) height″ (i + 1)
-  emit-more tree height′ stack′ edges exponent′ height″ p long k q d =
+  emit-more bush height′ stack′ edges exponent′ height″ p long k q d =
       let v = q lefts rights cells left (w .stack-stands) in
-      let r = d (firstTree left) (laterTrees left) (v .0) (v .1) in
+      let r = d (firstBush left) (laterBushes left) (v .0) (v .1) in
       let form = formOf (stepWord word) in
       record {
         short = w .short;
@@ -101,7 +101,7 @@ module _ {word lefts rights b₀ a₀ stack b a : List ℕ} {height i : ℕ}
         a-length = length-set a i exponent′ ∙ w .a-length;
         stack-stands =
             subst
-            (λ (j : ℕ). StackStands lefts rights cells (treesFrom j (treesOf word)) stack′ height″)
+            (λ (j : ℕ). StackStands lefts rights cells (bushesFrom j (bushesOf word)) stack′ height″)
             (sym (add-one i))
             (r .2);
         b-table =
@@ -115,7 +115,7 @@ module _ {word lefts rights b₀ a₀ stack b a : List ℕ} {height i : ℕ}
   read : ((s : Side) (j : ℕ) → i ≤ j → exponent s (formOf (stepWord word)) j ≡ 0) → LevelsRead word b₀ a₀ b a i
   read h = record { within = w .here; behind = h; b-table = w .b-table; a-table = w .a-table }
 
-  -- The stack is empty: nothing is left but leaves of exponent 0.
+  -- The stack is empty: nothing is left but tips of exponent 0.
   pub emit-empty : height ≡ 0 → LevelsRead word b₀ a₀ b a i
   emit-empty e =
       read (levels-behind (stepWord word) i (stack-none lefts rights cells left stack height e (w .stack-stands)))

@@ -15,14 +15,14 @@ use Rattle.refusals.specs.declared.Refusal.{Refusal}
 use Rattle.refusals.specs.declared.Verdict.{Verdict}
 use Rattle.refusals.specs.declared.Verdict.the-variants.{Accepted, Refused}
 use Rattle.refusals.specs.Refusals.{numberOf, placeOf}
-use Rattle.refusals.specs.Outcomes.{Outcome, accepted, refused, checked, verdictOf}
-use Rattle.refusals.proofs.Outcomes.{accepted-refused, checked-accepted, checked-refused}
+use Rattle.refusals.specs.Outcomes.{Outcome, accepted, refused, dropValue, verdictOf}
+use Rattle.refusals.proofs.Outcomes.{accepted-refused, drop-accepted, drop-refused}
 use Rattle.forest.specs.declared.Filling.{Filling}
 use Rattle.forest.specs.declared.Filling.the-variants.{Filled, Refused as NotFilled, Unfit}
 use Rattle.forest.specs.Judging.{judged}
 use Rattle.forest.specs.Filling.{cells, room, judgedIn, fillingOf, tableAfter, FilledTables}
-use Rattle.forest.specs.Moves.{stepLetter, stepWord, Scratch}
-use Rattle.forest.specs.Leaves.{LongTables, Tabled}
+use Rattle.forest.specs.inside.Moves.{stepLetter, stepWord, Scratch}
+use Rattle.forest.specs.inside.Leaves.{LongTables, Tabled}
 use Rattle.forest.proofs.Judged.{accepted-fit}
 
 -- On the bytes of a word the step reads that word.
@@ -55,7 +55,7 @@ module _ {word b a lefts rights stack : List ℕ} where
   kept : (r : Filling) (n p : ℕ) → judgedIn word b a lefts rights stack ≡ refused n p → fillingOf r ≡ refused n p
       → FilledTables word b a lefts rights stack b a lefts rights stack r
   kept r n p e f = record {
-    result = f ∙ sym (ap checked e);
+    result = f ∙ sym (ap dropValue e);
     b-table = sym (ap (λ (o : Outcome Word). tableAfter bSide o b) e);
     a-table = sym (ap (λ (o : Outcome Word). tableAfter aSide o a) e);
     scratch-kept = λ number place g. (refl, refl, refl);
@@ -80,18 +80,18 @@ module _ {word b a lefts rights stack : List ℕ} where
   module _ (p : length lefts ≡ cells) (q : length rights ≡ cells) (r : length stack ≡ room) where
     -- Where the word or the tables are refused.
     pub word-refused : (v : Verdict) (x : Refusal) → v ≡ Refused x
-        → verdictOf v ≡ checked (judged word (length b) (length a))
+        → verdictOf v ≡ dropValue (judged word (length b) (length a))
         → FilledTables word b a lefts rights stack b a lefts rights stack (NotFilled x)
     word-refused v x e f =
         kept (NotFilled x) (numberOf x) (placeOf x)
         (fit-judged word b a lefts rights stack p q r
-        ∙ checked-refused (judged word (length b) (length a)) (sym (ap verdictOf e) ∙ f))
+        ∙ drop-refused (judged word (length b) (length a)) (sym (ap verdictOf e) ∙ f))
         refl
 
     -- Where they are accepted: what the engine asks.
-    pub word-accepted : (v : Verdict) → v ≡ Accepted → verdictOf v ≡ checked (judged word (length b) (length a))
+    pub word-accepted : (v : Verdict) → v ≡ Accepted → verdictOf v ≡ dropValue (judged word (length b) (length a))
         → Scratch word lefts rights stack × LongTables word b a
-    word-accepted v e f = go (checked-accepted (judged word (length b) (length a)) (sym (ap verdictOf e) ∙ f))
+    word-accepted v e f = go (drop-accepted (judged word (length b) (length a)) (sym (ap verdictOf e) ∙ f))
       where
         go : (w : Word) × (judged word (length b) (length a) ≡ accepted w)
             → Scratch word lefts rights stack × LongTables word b a
@@ -103,10 +103,10 @@ module _ {word b a lefts rights stack : List ℕ} where
 
     -- What the engine leaves.
     pub tables-filled : {b′ a′ lefts′ rights′ stack′ : List ℕ} {n : ℕ} (v : Verdict) → v ≡ Accepted
-        → verdictOf v ≡ checked (judged word (length b) (length a)) → Tabled word b a b′ a′ n
+        → verdictOf v ≡ dropValue (judged word (length b) (length a)) → Tabled word b a b′ a′ n
         → FilledTables word b a lefts rights stack b′ a′ lefts′ rights′ stack′ (Filled n)
     tables-filled {b′} {a′} {lefts′} {rights′} {stack′} {n} v e f t =
-        go (checked-accepted (judged word (length b) (length a)) (sym (ap verdictOf e) ∙ f))
+        go (drop-accepted (judged word (length b) (length a)) (sym (ap verdictOf e) ∙ f))
       where
         go : (w : Word) × (judged word (length b) (length a) ≡ accepted w)
             → FilledTables word b a lefts rights stack b′ a′ lefts′ rights′ stack′ (Filled n)
@@ -115,7 +115,7 @@ module _ {word b a lefts rights stack : List ℕ} where
             let o : judgedIn word b a lefts rights stack ≡ accepted w =
             fit-judged word b a lefts rights stack p q r ∙ g in
             record {
-              result = sym (ap checked o);
+              result = sym (ap dropValue o);
               b-table =
                   t .b-table
                   ∙ as-read bSide word w b (fit .reads)

@@ -10,10 +10,10 @@ use borrow.Author.Tests.{lt-ltb, le-ltb, ltb-false}
 use Rattle.group.specs.Letters.{Word}
 use Rattle.group.specs.Bytes.{Reading, isWord, notLetter, readWord}
 use Rattle.group.specs.Limits.{limit}
-use Rattle.refusals.specs.Outcomes.{Outcome, accepted, refused, checked}
+use Rattle.refusals.specs.Outcomes.{Outcome, accepted, refused, dropValue}
 use Rattle.refusals.proofs.Outcomes.{accepted-refused, passed}
 use Rattle.forest.specs.Judging.{judgedReading, judged}
-use Rattle.forest.specs.Scanning.{lettersInFront}
+use Rattle.forest.specs.inside.Scanning.{lettersInFront}
 use Rattle.forest.proofs.Scanning.{all-letters, some-bad}
 
 -- The outcome by the tests of the two tables, each true where the table is too short.
@@ -21,13 +21,13 @@ abbrev tablesOutcome : Bool → Bool → Outcome ℕ
 tablesOutcome b a = cond b (refused 6 0) (cond a (refused 6 0) (accepted 0))
 
 tables-checked : (b a : Bool) (w : Word)
-    → checked (cond b (refused 6 0) (cond a (refused 6 0) (accepted w))) ≡ tablesOutcome b a
+    → dropValue (cond b (refused 6 0) (cond a (refused 6 0) (accepted w))) ≡ tablesOutcome b a
 tables-checked true a w = refl
 tables-checked false true w = refl
 tables-checked false false w = refl
 
 module _ (s : List ℕ) (nb na : ℕ) where
-  pub judge-long : limit < length s → refused 1 limit ≡ checked (judged s nb na)
+  pub judge-long : limit < length s → refused 1 limit ≡ dropValue (judged s nb na)
   judge-long p = simp (lt-ltb limit (length s) p)
 
   module _ (short : length s ≤ limit) where
@@ -35,31 +35,31 @@ module _ (s : List ℕ) (nb na : ℕ) where
     judge-read r e =
         simp (le-ltb limit (length s) short) (ap (λ (q : Reading). judgedReading q (length s) nb na) e)
 
-    pub judge-letter : (k : ℕ) → k ≡ lettersInFront s → k < length s → refused 2 k ≡ checked (judged s nb na)
+    pub judge-letter : (k : ℕ) → k ≡ lettersInFront s → k < length s → refused 2 k ≡ dropValue (judged s nb na)
     judge-letter k e p =
         let bad : readWord s ≡ notLetter k = some-bad s (omega arith) ∙ ap notLetter (sym e) in
-        sym (ap checked (judge-read (notLetter k) bad))
+        sym (ap dropValue (judge-read (notLetter k) bad))
 
     -- Of a word the tables decide.
     judge-tables : (k : ℕ) → k ≡ lettersInFront s → length s ≤ k
-        → checked (judged s nb na) ≡ tablesOutcome (ltb nb (length s + 1)) (ltb na (length s + 1))
+        → dropValue (judged s nb na) ≡ tablesOutcome (ltb nb (length s + 1)) (ltb na (length s + 1))
     judge-tables k e all = go (all-letters s (omega arith))
       where
         go : (w : Word) × (readWord s ≡ isWord w)
-            → checked (judged s nb na) ≡ tablesOutcome (ltb nb (length s + 1)) (ltb na (length s + 1))
+            → dropValue (judged s nb na) ≡ tablesOutcome (ltb nb (length s + 1)) (ltb na (length s + 1))
         go (w, r) =
-            ap checked (judge-read (isWord w) r)
+            ap dropValue (judge-read (isWord w) r)
             ∙ tables-checked (ltb nb (length s + 1)) (ltb na (length s + 1)) w
 
     module _ (k : ℕ) (e : k ≡ lettersInFront s) (all : length s ≤ k) where
-      pub judge-short-b : nb < length s + 1 → refused 6 0 ≡ checked (judged s nb na)
+      pub judge-short-b : nb < length s + 1 → refused 6 0 ≡ dropValue (judged s nb na)
       judge-short-b p = sym (judge-tables k e all ∙ simp (lt-ltb nb (length s + 1) p))
 
-      pub judge-short-a : length s + 1 ≤ nb → na < length s + 1 → refused 6 0 ≡ checked (judged s nb na)
+      pub judge-short-a : length s + 1 ≤ nb → na < length s + 1 → refused 6 0 ≡ dropValue (judged s nb na)
       judge-short-a long p =
           sym (judge-tables k e all ∙ simp (le-ltb nb (length s + 1) long, lt-ltb na (length s + 1) p))
 
-      pub judge-accepts : length s + 1 ≤ nb → length s + 1 ≤ na → accepted 0 ≡ checked (judged s nb na)
+      pub judge-accepts : length s + 1 ≤ nb → length s + 1 ≤ na → accepted 0 ≡ dropValue (judged s nb na)
       judge-accepts long p =
           sym (judge-tables k e all ∙ simp (le-ltb nb (length s + 1) long, le-ltb na (length s + 1) p))
 

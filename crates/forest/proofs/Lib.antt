@@ -1,6 +1,6 @@
 -- Laws of the engine.
 
--- the model: rows are forms, no reducing step applies in the row of a word, leaves are levels
+-- the model: rows are forms, no reducing step applies in the row of a word, tips are levels
 pub mod Levels
 pub mod Irreducible
 pub mod ReadOff
@@ -10,7 +10,7 @@ pub mod Stored
 pub mod Joining
 pub mod Moving
 pub mod Running
--- the leaves read off
+-- the tips read off
 pub mod Descent
 pub mod Piled
 pub mod Emitting

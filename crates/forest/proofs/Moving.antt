@@ -7,56 +7,56 @@ use lib.ListN.{getD}
 use borrow.Author.Tests.{ne-eqb}
 use Rattle.group.specs.Letters.{Letter, 'a, 'A, 'b, 'B}
 use Rattle.forest.specs.declared.row.State.{State}
-use Rattle.forest.specs.Forest.{Tree, rightPart, firstTree, laterTrees, Row, row, moveRow}
-use Rattle.forest.specs.Cells.{Stands, StackStands, LeftCode, RightCode, Popped, Pushed, Made}
-use Rattle.forest.specs.Moves.{stepLetter, Held, RaisableRow, Moved}
+use Rattle.forest.specs.inside.Forest.{Bush, rightPart, firstBush, laterBushes, Row, row, moveRow}
+use Rattle.forest.specs.inside.Cells.{Stands, StackStands, LeftCode, RightCode, Popped, Pushed, Made}
+use Rattle.forest.specs.inside.Moves.{stepLetter, Held, RaisableRow, Moved}
 
--- What keeps each tree keeps a stack of them.
+-- What keeps each bush keeps a stack of them.
 stack-keeps : (lefts rights lefts′ rights′ : List ℕ) (used used′ : ℕ)
-    → ((x : Tree) (code : ℕ) → Stands lefts rights used x code → Stands lefts′ rights′ used′ x code)
-    → (ts : List Tree) (stack : List ℕ) (height : ℕ)
+    → ((x : Bush) (code : ℕ) → Stands lefts rights used x code → Stands lefts′ rights′ used′ x code)
+    → (ts : List Bush) (stack : List ℕ) (height : ℕ)
     → StackStands lefts rights used ts stack height → StackStands lefts′ rights′ used′ ts stack height
 stack-keeps lefts rights lefts′ rights′ used used′ g [] stack height s = s
 stack-keeps lefts rights lefts′ rights′ used used′ g (t ∷ ts) stack height (top, e, h, s) =
     (top, e, g t (getD stack top 0) h, stack-keeps lefts rights lefts′ rights′ used used′ g ts stack top s)
 
-module _ (lefts rights stack lefts′ rights′ : List ℕ) (s : State) (used tree top height : ℕ) where
-  -- The letter a: trees were joined, then one was taken from the stack.
+module _ (lefts rights stack lefts′ rights′ : List ℕ) (s : State) (used bush top height : ℕ) where
+  -- The letter a: bushes were joined, then one was taken from the stack.
   pub joined-first : Popped stack (s .height) top height
-      → Made lefts rights (s .used) (s .first) (s .second) lefts′ rights′ used tree
+      → Made lefts rights (s .used) (s .first) (s .second) lefts′ rights′ used bush
       → Moved 'a lefts rights stack s lefts′ rights′ stack
-      (record { used = used; height = height; first = tree; second = top })
+      (record { used = used; height = height; first = bush; second = top })
   joined-first p m = record { low = m .low; high = m .high; moves = moves }
     where
       moves : (r : Row) → RaisableRow r → Held lefts rights stack s r
-          → Held lefts′ rights′ stack (record { used = used; height = height; first = tree; second = top })
+          → Held lefts′ rights′ stack (record { used = used; height = height; first = bush; second = top })
           (moveRow 'a r)
       moves (row x y ts) l (h, k, t) =
           let q = p lefts rights (s .used) ts t in (
             m .makes x y h k,
-            m .keeps (firstTree ts) top (q .0),
-            stack-keeps lefts rights lefts′ rights′ (s .used) used (m .keeps) (laterTrees ts) stack height (q .1),
+            m .keeps (firstBush ts) top (q .0),
+            stack-keeps lefts rights lefts′ rights′ (s .used) used (m .keeps) (laterBushes ts) stack height (q .1),
           )
 
   -- The letter b.
   pub joined-second : Popped stack (s .height) top height
-      → Made lefts rights (s .used) (s .second) top lefts′ rights′ used tree
+      → Made lefts rights (s .used) (s .second) top lefts′ rights′ used bush
       → Moved 'b lefts rights stack s lefts′ rights′ stack
-      (record { used = used; height = height; first = s .first; second = tree })
+      (record { used = used; height = height; first = s .first; second = bush })
   joined-second p m = record { low = m .low; high = m .high; moves = moves }
     where
       moves : (r : Row) → RaisableRow r → Held lefts rights stack s r
-          → Held lefts′ rights′ stack (record { used = used; height = height; first = s .first; second = tree })
+          → Held lefts′ rights′ stack (record { used = used; height = height; first = s .first; second = bush })
           (moveRow 'b r)
       moves (row x y ts) l (h, k, t) =
           let q = p lefts rights (s .used) ts t in (
             m .keeps x (s .first) h,
-            m .makes y (firstTree ts) k (q .0),
-            stack-keeps lefts rights lefts′ rights′ (s .used) used (m .keeps) (laterTrees ts) stack height (q .1),
+            m .makes y (firstBush ts) k (q .0),
+            stack-keeps lefts rights lefts′ rights′ (s .used) used (m .keeps) (laterBushes ts) stack height (q .1),
           )
 
 module _ (lefts rights stack stack′ : List ℕ) (s : State) (left right height : ℕ) where
-  -- The letter A: the second tree was pushed, and the first parted.
+  -- The letter A: the second bush was pushed, and the first parted.
   pub parted-first : Pushed stack (s .height) (s .second) stack′ height → LeftCode lefts (s .first) left
       → RightCode rights (s .first) right
       → Moved 'A lefts rights stack s lefts rights stack′

@@ -10,11 +10,11 @@ use Rattle.group.specs.Letters.{Word}
 use Rattle.group.specs.Limits.{limit}
 use Rattle.forest.specs.declared.row.State.{State}
 use Rattle.forest.specs.Filling.{cells}
-use Rattle.forest.specs.Forest.{Tree, leaf, caret, Row, row, rowOf}
-use Rattle.forest.specs.Cells.{Raisable}
-use Rattle.forest.specs.Moves.{stepLetter, stepWord, Held, RaisableRow, Ready, Moved, Scratch, Ran}
+use Rattle.forest.specs.inside.Forest.{Bush, tip, fork, Row, row, rowOfWord}
+use Rattle.forest.specs.inside.Cells.{Raisable}
+use Rattle.forest.specs.inside.Moves.{stepLetter, stepWord, Held, RaisableRow, Ready, Moved, Scratch, Ran}
 use Rattle.forest.proofs.Irreducible.{Irreducible, IrreducibleRow, row-irreducible}
-use Rattle.forest.proofs.Counting.{leaves-some}
+use Rattle.forest.proofs.Counting.{tips-some}
 use Rattle.forest.proofs.Stored.{stands-below, stack-height}
 
 pub step-length : (s : List ℕ) → length (stepWord s) ≡ length s
@@ -37,14 +37,14 @@ pub record Running (word lefts rights stack : List ℕ) (s : State) (i : ℕ) : 
   pub scratch : Scratch word lefts rights stack
   pub used-low : limit < s .used
   pub used-high : s .used + i ≤ limit + 1 + length word
-  pub held : Held lefts rights stack s (rowOf (readFrom word i))
+  pub held : Held lefts rights stack s (rowOfWord (readFrom word i))
 
-tree-raisable : (n : ℕ) (t : Tree) → n < limit → Irreducible n t → Raisable t
-tree-raisable n (leaf m) p h = omega arith
-tree-raisable n (caret x y) p h = tt
+bush-raisable : (n : ℕ) (t : Bush) → n < limit → Irreducible n t → Raisable t
+bush-raisable n (tip m) p h = omega arith
+bush-raisable n (fork x y) p h = tt
 
 row-raisable : (n : ℕ) (r : Row) → n < limit → IrreducibleRow n r → RaisableRow r
-row-raisable n (row x y ts) p (h, k, l, m) = (tree-raisable n x p h, tree-raisable n y p k)
+row-raisable n (row x y ts) p (h, k, l, m) = (bush-raisable n x p h, bush-raisable n y p k)
 
 held-ready : (n : ℕ) (r : Row) {word lefts rights stack : List ℕ} (s : State) → n < limit → IrreducibleRow n r
     → Scratch word lefts rights stack → limit < s .used → s .used < cells → Held lefts rights stack s r
@@ -57,7 +57,7 @@ held-ready n (row x y ts) {word} {lefts} {rights} {stack} s p i scratch low high
   used-high = high;
   height-high =
       omega
-      (arith, stack-height lefts rights (s .used) ts stack (s .height) t, i .3, leaves-some x, leaves-some y);
+      (arith, stack-height lefts rights (s .used) ts stack (s .height) t, i .3, tips-some x, tips-some y);
   first-high = omega (arith, stands-below lefts rights (s .used) x (s .first) low h);
   second-high = omega (arith, stands-below lefts rights (s .used) y (s .second) low k);
 }
@@ -72,22 +72,22 @@ run-starts {word} {lefts} {rights} {stack} scratch = record {
   held =
       subst
       (λ (w : List ℕ).
-      Held lefts rights stack (record { used = limit + 1; height = 0; first = 0; second = 0 }) (rowOf (stepWord w)))
+      Held lefts rights stack (record { used = limit + 1; height = 0; first = 0; second = 0 }) (rowOfWord (stepWord w)))
       (sym (drop-length word))
       ((refl, omega arith), (refl, omega arith), refl);
 }
 
 module _ {word lefts rights stack : List ℕ} {s : State} {i : ℕ}
     (r : Running word lefts rights stack s i) (p : 0 < i) where
-  irreducible : IrreducibleRow (length word - i) (rowOf (readFrom word i))
+  irreducible : IrreducibleRow (length word - i) (rowOfWord (readFrom word i))
   irreducible =
-      subst (λ (n : ℕ). IrreducibleRow n (rowOf (readFrom word i)))
+      subst (λ (n : ℕ). IrreducibleRow n (rowOfWord (readFrom word i)))
       (step-length (drop i word) ∙ length-drop i word)
       (row-irreducible (readFrom word i))
 
   pub run-ready : Ready lefts rights stack s
   run-ready =
-      held-ready (length word - i) (rowOf (readFrom word i)) s (omega (arith, r)) irreducible (r .scratch)
+      held-ready (length word - i) (rowOfWord (readFrom word i)) s (omega (arith, r)) irreducible (r .scratch)
       (r .used-low) (omega (arith, r)) (r .held)
 
   pub run-more : {lefts′ rights′ stack′ : List ℕ} {s′ : State} → length lefts′ ≡ length lefts
@@ -105,9 +105,9 @@ module _ {word lefts rights stack : List ℕ} {s : State} {i : ℕ}
     used-low = omega (arith, r, m);
     used-high = omega (arith, r, m);
     held =
-        subst (λ (w : Word). Held lefts′ rights′ stack′ s′ (rowOf w)) (sym (read-more word i p (r .here)))
-        (m .moves (rowOf (readFrom word i))
-        (row-raisable (length word - i) (rowOf (readFrom word i)) (omega (arith, r)) irreducible)
+        subst (λ (w : Word). Held lefts′ rights′ stack′ s′ (rowOfWord w)) (sym (read-more word i p (r .here)))
+        (m .moves (rowOfWord (readFrom word i))
+        (row-raisable (length word - i) (rowOfWord (readFrom word i)) (omega (arith, r)) irreducible)
         (r .held));
   }
 
@@ -117,5 +117,5 @@ run-ends {word} {lefts} {rights} {stack} {s} {i} r p =
     let e : i ≡ 0 = omega arith in
     record {
       used-high = omega (arith, r);
-      held = subst (λ (j : ℕ). Held lefts rights stack s (rowOf (readFrom word j))) e (r .held);
+      held = subst (λ (j : ℕ). Held lefts rights stack s (rowOfWord (readFrom word j))) e (r .held);
     }

@@ -15,7 +15,7 @@ use Rattle.group.specs.Letters.{Letter, 'B, Word}
 use Rattle.group.specs.Texts.{letterOf}
 use Rattle.group.specs.Bytes.{Reading, isWord, notLetter, readLetter, readWord}
 use Rattle.group.proofs.Bytes.{not-letter}
-use Rattle.forest.specs.Scanning.{isLetter, allLetters, readingEnd, lettersInFront}
+use Rattle.forest.specs.inside.Scanning.{isLetter, allLetters, readingEnd, lettersInFront}
 
 -- The last of the four tests of a byte.
 pub letter-last : (c : ℕ) → (c ≡ 97 → ⊥) → (c ≡ 65 → ⊥) → (c ≡ 98 → ⊥) → eqb c 66 ≡ isLetter (letterOf c)

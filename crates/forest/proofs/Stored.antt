@@ -1,4 +1,4 @@
--- Stored trees: what using more cells, taking from the stack, pushing and parting keep and make. Assumes nothing.
+-- Stored bushes: what using more cells, taking from the stack, pushing and parting keep and make. Assumes nothing.
 use mathlib.Core.Path.{_≡_, refl, sym, subst}
 use mathlib.Core.List.{List, [], _∷_}
 use Prim.Native.Nat.{ℕ, zero, suc, _+_, _-_, _≤_, _<_}
@@ -7,36 +7,36 @@ use lib.ListN.{getD, set, length}
 use lib.Seq.{getD-set-same}
 use borrow.Author.Needs.{read-below}
 use Rattle.group.specs.Limits.{limit}
-use Rattle.forest.specs.Forest.{Tree, leaf, caret, putTree, forestLeaves}
-use Rattle.forest.specs.Cells.{Stands, StackStands, LeftCode, RightCode, Popped, Pushed}
-use Rattle.forest.proofs.Counting.{leaves-some}
+use Rattle.forest.specs.inside.Forest.{Bush, tip, fork, putBush, forestTips}
+use Rattle.forest.specs.inside.Cells.{Stands, StackStands, LeftCode, RightCode, Popped, Pushed}
+use Rattle.forest.proofs.Counting.{tips-some}
 
 module _ (lefts rights : List ℕ) where
-  -- The code of a stored tree is below the next cell, and it stays stored as cells are used.
-  pub stands-below : (used : ℕ) (t : Tree) (code : ℕ) → limit < used → Stands lefts rights used t code → code < used
-  stands-below used (leaf n) code p h = omega arith
-  stands-below used (caret x y) code p h = h .1
+  -- The code of a stored bush is below the next cell, and it stays stored as cells are used.
+  pub stands-below : (used : ℕ) (t : Bush) (code : ℕ) → limit < used → Stands lefts rights used t code → code < used
+  stands-below used (tip n) code p h = omega arith
+  stands-below used (fork x y) code p h = h .1
 
-  pub stands-more : (used used′ : ℕ) (t : Tree) (code : ℕ) → used ≤ used′ → Stands lefts rights used t code
+  pub stands-more : (used used′ : ℕ) (t : Bush) (code : ℕ) → used ≤ used′ → Stands lefts rights used t code
       → Stands lefts rights used′ t code
-  stands-more used used′ (leaf n) code p h = h
-  stands-more used used′ (caret x y) code p h = (h .0, omega arith, h .2, h .3)
+  stands-more used used′ (tip n) code p h = h
+  stands-more used used′ (fork x y) code p h = (h .0, omega arith, h .2, h .3)
 
-  pub stack-more : (used used′ : ℕ) (ts : List Tree) (stack : List ℕ) (height : ℕ) → used ≤ used′
+  pub stack-more : (used used′ : ℕ) (ts : List Bush) (stack : List ℕ) (height : ℕ) → used ≤ used′
       → StackStands lefts rights used ts stack height → StackStands lefts rights used′ ts stack height
   stack-more used used′ [] stack height p s = s
   stack-more used used′ (t ∷ ts) stack height p (top, e, h, s) =
       (top, e, stands-more used used′ t (getD stack top 0) p h, stack-more used used′ ts stack top p s)
 
-  -- The height of the stack is at most the number of leaves in it.
-  pub stack-height : (used : ℕ) (ts : List Tree) (stack : List ℕ) (height : ℕ)
-      → StackStands lefts rights used ts stack height → height ≤ forestLeaves ts
+  -- The height of the stack is at most the number of tips in it.
+  pub stack-height : (used : ℕ) (ts : List Bush) (stack : List ℕ) (height : ℕ)
+      → StackStands lefts rights used ts stack height → height ≤ forestTips ts
   stack-height used [] stack height s = omega arith
   stack-height used (t ∷ ts) stack height (top, e, h, s) =
-      omega (arith, leaves-some t, stack-height used ts stack top s)
+      omega (arith, tips-some t, stack-height used ts stack top s)
 
   -- A store to the stack at or above the height changes nothing below it.
-  stack-kept : (used : ℕ) (ts : List Tree) (stack : List ℕ) (at v height : ℕ) → height ≤ at
+  stack-kept : (used : ℕ) (ts : List Bush) (stack : List ℕ) (at v height : ℕ) → height ≤ at
       → StackStands lefts rights used ts stack height → StackStands lefts rights used ts (set stack at v) height
   stack-kept used [] stack at v height p s = s
   stack-kept used (t ∷ ts) stack at v height p (top, e, h, s) = (
@@ -46,7 +46,7 @@ module _ (lefts rights : List ℕ) where
     stack-kept used ts stack at v top (omega arith) s,
   )
 
-  stack-push : (used : ℕ) (t : Tree) (ts : List Tree) (stack : List ℕ) (height code : ℕ) → height < length stack
+  stack-push : (used : ℕ) (t : Bush) (ts : List Bush) (stack : List ℕ) (height code : ℕ) → height < length stack
       → Stands lefts rights used t code → StackStands lefts rights used ts stack height
       → StackStands lefts rights used (t ∷ ts) (set stack height code) (height + 1)
   stack-push used t ts stack height code p h s = (
@@ -56,13 +56,13 @@ module _ (lefts rights : List ℕ) where
     stack-kept used ts stack height code height (omega arith) s,
   )
 
-  -- An empty stack stands for no trees.
-  pub stack-none : (used : ℕ) (ts : List Tree) (stack : List ℕ) (height : ℕ) → height ≡ 0
+  -- An empty stack stands for no bushes.
+  pub stack-none : (used : ℕ) (ts : List Bush) (stack : List ℕ) (height : ℕ) → height ≡ 0
       → StackStands lefts rights used ts stack height → ts ≡ []
   stack-none used [] stack height e s = refl
   stack-none used (t ∷ ts) stack height e s = absurd (omega (arith, s .1))
 
--- The first tree is taken from the stack, or a leaf where the stack is empty.
+-- The first bush is taken from the stack, or a tip where the stack is empty.
 pub pop-none : (stack : List ℕ) (height : ℕ) → height ≡ 0 → Popped stack height 0 0
 pop-none stack height e lefts rights used [] s = ((refl, omega arith), refl)
 pop-none stack height e lefts rights used (t ∷ ts) s = absurd (omega (arith, s .1))
@@ -76,48 +76,48 @@ pop-some stack height some lefts rights used (t ∷ ts) (top, e, h, s) =
       subst (λ (j : ℕ). StackStands lefts rights used ts stack j) c s,
     )
 
--- A tree is put onto the stack, but a leaf of exponent 0 at its bottom is not stored.
-pub push-none : (stack : List ℕ) (height tree : ℕ) → height ≡ 0 → tree ≡ 0 → Pushed stack height tree stack 0
-push-none stack height tree e z = record { high = omega arith; puts = puts }
+-- A bush is put onto the stack, but a tip of exponent 0 at its bottom is not stored.
+pub push-none : (stack : List ℕ) (height bush : ℕ) → height ≡ 0 → bush ≡ 0 → Pushed stack height bush stack 0
+push-none stack height bush e z = record { high = omega arith; puts = puts }
   where
-    puts : (lefts rights : List ℕ) (used : ℕ) (t : Tree) (ts : List Tree) → Stands lefts rights used t tree
-        → StackStands lefts rights used ts stack height → StackStands lefts rights used (putTree t ts) stack 0
-    puts lefts rights used (leaf zero) [] h s = refl
-    puts lefts rights used (leaf zero) (t ∷ ts) h s = absurd (omega (arith, s .1))
-    puts lefts rights used (leaf (suc n)) ts h s = absurd (omega (arith, h .0))
-    puts lefts rights used (caret x y) ts h s = absurd (omega (arith, h .0))
+    puts : (lefts rights : List ℕ) (used : ℕ) (t : Bush) (ts : List Bush) → Stands lefts rights used t bush
+        → StackStands lefts rights used ts stack height → StackStands lefts rights used (putBush t ts) stack 0
+    puts lefts rights used (tip zero) [] h s = refl
+    puts lefts rights used (tip zero) (t ∷ ts) h s = absurd (omega (arith, s .1))
+    puts lefts rights used (tip (suc n)) ts h s = absurd (omega (arith, h .0))
+    puts lefts rights used (fork x y) ts h s = absurd (omega (arith, h .0))
 
-pub push-some : (stack : List ℕ) (height tree : ℕ) → height < length stack → ((height ≡ 0) × (tree ≡ 0) → ⊥)
-    → Pushed stack height tree (set stack height tree) (height + 1)
-push-some stack height tree p some = record { high = omega arith; puts = puts }
+pub push-some : (stack : List ℕ) (height bush : ℕ) → height < length stack → ((height ≡ 0) × (bush ≡ 0) → ⊥)
+    → Pushed stack height bush (set stack height bush) (height + 1)
+push-some stack height bush p some = record { high = omega arith; puts = puts }
   where
-    puts : (lefts rights : List ℕ) (used : ℕ) (t : Tree) (ts : List Tree) → Stands lefts rights used t tree
+    puts : (lefts rights : List ℕ) (used : ℕ) (t : Bush) (ts : List Bush) → Stands lefts rights used t bush
         → StackStands lefts rights used ts stack height
-        → StackStands lefts rights used (putTree t ts) (set stack height tree) (height + 1)
-    puts lefts rights used (leaf zero) [] h s = absurd (some (s, h .0))
-    puts lefts rights used (leaf zero) (t ∷ ts) h s =
-        stack-push lefts rights used (leaf zero) (t ∷ ts) stack height tree p h s
-    puts lefts rights used (leaf (suc n)) ts h s =
-        stack-push lefts rights used (leaf (suc n)) ts stack height tree p h s
-    puts lefts rights used (caret x y) ts h s = stack-push lefts rights used (caret x y) ts stack height tree p h s
+        → StackStands lefts rights used (putBush t ts) (set stack height bush) (height + 1)
+    puts lefts rights used (tip zero) [] h s = absurd (some (s, h .0))
+    puts lefts rights used (tip zero) (t ∷ ts) h s =
+        stack-push lefts rights used (tip zero) (t ∷ ts) stack height bush p h s
+    puts lefts rights used (tip (suc n)) ts h s =
+        stack-push lefts rights used (tip (suc n)) ts stack height bush p h s
+    puts lefts rights used (fork x y) ts h s = stack-push lefts rights used (fork x y) ts stack height bush p h s
 
--- The parts of a tree; k is the code as an index.
-pub left-leaf : (lefts : List ℕ) (code : ℕ) → code ≤ limit → LeftCode lefts code (code + 1)
-left-leaf lefts code p rights used (leaf n) l h = (omega (arith, h .0), omega arith)
-left-leaf lefts code p rights used (caret x y) l h = absurd (omega (arith, h .0))
+-- The parts of a bush; k is the code as an index.
+pub left-tip : (lefts : List ℕ) (code : ℕ) → code ≤ limit → LeftCode lefts code (code + 1)
+left-tip lefts code p rights used (tip n) l h = (omega (arith, h .0), omega arith)
+left-tip lefts code p rights used (fork x y) l h = absurd (omega (arith, h .0))
 
-pub left-caret : (lefts : List ℕ) (code k : ℕ) → limit < code → k ≡ code → LeftCode lefts code (getD lefts k 0)
-left-caret lefts code k p e rights used (leaf n) l h = absurd (omega (arith, h .0, h .1))
-left-caret lefts code k p e rights used (caret x y) l h =
+pub left-fork : (lefts : List ℕ) (code k : ℕ) → limit < code → k ≡ code → LeftCode lefts code (getD lefts k 0)
+left-fork lefts code k p e rights used (tip n) l h = absurd (omega (arith, h .0, h .1))
+left-fork lefts code k p e rights used (fork x y) l h =
     stands-more lefts rights code used x (getD lefts k 0) (omega (arith, h .1))
     (subst (λ (j : ℕ). Stands lefts rights code x (getD lefts j 0)) (sym e) (h .2))
 
-pub right-leaf : (rights : List ℕ) (code : ℕ) → code ≤ limit → RightCode rights code 0
-right-leaf rights code p lefts used (leaf n) h = (refl, omega arith)
-right-leaf rights code p lefts used (caret x y) h = absurd (omega (arith, h .0))
+pub right-tip : (rights : List ℕ) (code : ℕ) → code ≤ limit → RightCode rights code 0
+right-tip rights code p lefts used (tip n) h = (refl, omega arith)
+right-tip rights code p lefts used (fork x y) h = absurd (omega (arith, h .0))
 
-pub right-caret : (rights : List ℕ) (code k : ℕ) → limit < code → k ≡ code → RightCode rights code (getD rights k 0)
-right-caret rights code k p e lefts used (leaf n) h = absurd (omega (arith, h .0, h .1))
-right-caret rights code k p e lefts used (caret x y) h =
+pub right-fork : (rights : List ℕ) (code k : ℕ) → limit < code → k ≡ code → RightCode rights code (getD rights k 0)
+right-fork rights code k p e lefts used (tip n) h = absurd (omega (arith, h .0, h .1))
+right-fork rights code k p e lefts used (fork x y) h =
     stands-more lefts rights code used y (getD rights k 0) (omega (arith, h .1))
     (subst (λ (j : ℕ). Stands lefts rights code y (getD rights j 0)) (sym e) (h .3))

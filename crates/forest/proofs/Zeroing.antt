@@ -10,8 +10,8 @@ use Rattle.group.specs.Forms.{bSide, aSide, exponent}
 use Rattle.group.specs.Products.{formOf}
 use Rattle.group.proofs.Reduced.{form-trimmed}
 use Rattle.group.proofs.Sizes.{trimmed-levels}
-use Rattle.forest.specs.Moves.{stepWord}
-use Rattle.forest.specs.Leaves.{LongTables, LevelsRead, ZerosPut, Tabled}
+use Rattle.forest.specs.inside.Moves.{stepWord}
+use Rattle.forest.specs.inside.Leaves.{LongTables, LevelsRead, ZerosPut, Tabled}
 
 pub zeros-none : (t : List ℕ) (low : ℕ) → ZerosPut t low low t
 zeros-none t low f u p z e = e

@@ -10,16 +10,16 @@ use Rattle.group.specs.Letters.{Word}
 use Rattle.group.specs.Forms.{Side, bSide, aSide, exponent, levels}
 use Rattle.group.specs.Products.{formOf}
 use Rattle.group.specs.Limits.{limit}
-use Rattle.refusals.specs.Outcomes.{Outcome, accepted, refused, after, checked, refusal}
+use Rattle.refusals.specs.Outcomes.{Outcome, accepted, refused, after, dropValue, refusal}
 use Rattle.forest.specs.declared.Filling.{Filling}
 use Rattle.forest.specs.declared.Filling.the-variants.{Filled, Refused, Unfit}
 use Rattle.forest.specs.Judging.{judged}
 
--- Codes up to the limit are leaves; each letter takes one cell more at most.
+-- Codes up to the limit are tips; each letter takes one cell more at most.
 abbrev pub cells : ℕ
 cells = limit + limit + 1
 
--- The most trees that stand on the stack at once.
+-- The most bushes that stand on the stack at once.
 abbrev pub room : ℕ
 room = limit + 2
 
@@ -47,7 +47,7 @@ tableAfter s o t = after o t (λ w. filled (length w + 1) (exponent s (formOf w)
 
 -- For every word and whatever is lent with it. What the scratch holds at exit is open where the word is accepted.
 pub record FilledTables (word b a lefts rights stack b′ a′ lefts′ rights′ stack′ : List ℕ) (r : Filling) : Type 0 where
-  pub result : fillingOf r ≡ checked (judgedIn word b a lefts rights stack)
+  pub result : fillingOf r ≡ dropValue (judgedIn word b a lefts rights stack)
   pub b-table : b′ ≡ tableAfter bSide (judgedIn word b a lefts rights stack) b
   pub a-table : a′ ≡ tableAfter aSide (judgedIn word b a lefts rights stack) a
   pub scratch-kept : (number place : ℕ) → judgedIn word b a lefts rights stack ≡ refused number place

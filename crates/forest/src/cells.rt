@@ -1,25 +1,26 @@
-// Trees kept in cells, and the stack of trees. A tree is a code: up to LIMIT a leaf with that exponent, above it a cell
-// that holds the codes of its two parts, the left one in `lefts`, the right one in `rights`. A cell is written once.
+// Bushes kept in cells, and the stack of bushes. A bush is a code: up to LIMIT a tip with that exponent, above it a
+// cell that holds the codes of its two parts, the left one in `lefts`, the right one in `rights`. A cell is written
+// once.
 ghost use mathlib.Core.Path.{_≡_};
 ghost use Prim.Native.Nat.{_≤_, _<_};
 ghost use lib.ListN.{length};
 ghost use Rattle.group.specs.Limits.{limit};
 ghost use Rattle.forest.specs.Filling.{cells};
-ghost use Rattle.forest.specs.Cells.{LeftCode, RightCode, Popped, Pushed, Made};
+ghost use Rattle.forest.specs.inside.Cells.{LeftCode, RightCode, Popped, Pushed, Made};
 use refusals::LIMIT;
 
-// The last code of a leaf.
-pub const LAST_LEAF: u16 = LIMIT as u16;
+// The last code of a tip.
+pub const LAST_TIP: u16 = LIMIT as u16;
 
-// A tree taken from the stack, and the height that is left.
+// A bush taken from the stack, and the height that is left.
 pub struct Top {
-    pub tree: u16,
+    pub bush: u16,
     pub height: usize,
 }
 
-// A tree that was made, and the next cell.
+// A bush that was made, and the next cell.
 pub struct Cell {
-    pub tree: u16,
+    pub bush: u16,
     pub used: usize,
 }
 
@@ -30,68 +31,68 @@ pub fn wide(x: u16) -> usize
     x as usize
 }
 
-// The tree on top of the stack; behind the row stand leaves of exponent 0.
+// The bush on top of the stack; behind the row stand tips of exponent 0.
 pub fn pop(stack: &[u16], height: usize) -> Top
     requires { ⌜ height ≤ length (now stack) ⌝ }
-    ensures { λ r. ⌜ Popped (now (stack .entry)) height (r .tree) (r .height) ⌝ }
+    ensures { λ r. ⌜ Popped (now (stack .entry)) height (r .bush) (r .height) ⌝ }
 {
     if height == 0 {
-        return Top { tree: 0, height: 0 };
+        return Top { bush: 0, height: 0 };
     }
     let top = height - 1;
     Top {
-        tree: stack[top],
+        bush: stack[top],
         height: top,
     }
 }
 
-// A tree put onto the stack; at its bottom no leaf of exponent 0 is stored.
-pub fn push(stack: &mut [u16], height: usize, tree: u16) -> usize
+// A bush put onto the stack; at its bottom no tip of exponent 0 is stored.
+pub fn push(stack: &mut [u16], height: usize, bush: u16) -> usize
     requires { ⌜ height < length (now stack) ⌝ }
-    ensures { λ r. ⌜ Pushed (now (stack .entry)) height tree (now (stack .exit)) r ⌝ }
+    ensures { λ r. ⌜ Pushed (now (stack .entry)) height bush (now (stack .exit)) r ⌝ }
 {
     if height == 0 {
-        if tree == 0 {
+        if bush == 0 {
             return 0;
         }
     }
-    stack[height] = tree;
+    stack[height] = bush;
     height + 1
 }
 
-// The left part of a tree.
-pub fn left_of(lefts: &[u16], tree: u16) -> u16
-    requires { ⌜ (tree < length (now lefts)) × (length (now lefts) ≡ cells) ⌝ }
-    ensures { λ r. ⌜ LeftCode (now (lefts .entry)) tree r ⌝ }
+// The left part of a bush.
+pub fn left_of(lefts: &[u16], bush: u16) -> u16
+    requires { ⌜ (bush < length (now lefts)) × (length (now lefts) ≡ cells) ⌝ }
+    ensures { λ r. ⌜ LeftCode (now (lefts .entry)) bush r ⌝ }
 {
-    if tree <= LAST_LEAF {
-        return tree + 1;
+    if bush <= LAST_TIP {
+        return bush + 1;
     }
-    lefts[wide(tree)]
+    lefts[wide(bush)]
 }
 
-// The right part of a tree.
-pub fn right_of(rights: &[u16], tree: u16) -> u16
-    requires { ⌜ (tree < length (now rights)) × (length (now rights) ≡ cells) ⌝ }
-    ensures { λ r. ⌜ RightCode (now (rights .entry)) tree r ⌝ }
+// The right part of a bush.
+pub fn right_of(rights: &[u16], bush: u16) -> u16
+    requires { ⌜ (bush < length (now rights)) × (length (now rights) ≡ cells) ⌝ }
+    ensures { λ r. ⌜ RightCode (now (rights .entry)) bush r ⌝ }
 {
-    if tree <= LAST_LEAF {
+    if bush <= LAST_TIP {
         return 0;
     }
-    rights[wide(tree)]
+    rights[wide(bush)]
 }
 
-// Two trees under one caret: a leaf where the caret is taken away, else a new cell.
+// Two bushes under one fork: a tip where the fork is taken away, else a new cell.
 pub fn join(lefts: &mut [u16], rights: &mut [u16], used: usize, left: u16, right: u16) -> Cell
     requires { ⌜ (limit < used) × (used < cells) × (length (now lefts) ≡ cells) × (length (now rights) ≡ cells) ⌝ }
     ensures { λ r. ⌜ Made (now (lefts .entry)) (now (rights .entry)) used left right (now (lefts .exit))
-        (now (rights .exit)) (r .used) (r .tree) ⌝ }
+        (now (rights .exit)) (r .used) (r .bush) ⌝ }
 {
     if right == 0 {
         if 0 < left {
-            if left <= LAST_LEAF {
+            if left <= LAST_TIP {
                 return Cell {
-                    tree: left - 1,
+                    bush: left - 1,
                     used,
                 };
             }
@@ -100,7 +101,7 @@ pub fn join(lefts: &mut [u16], rights: &mut [u16], used: usize, left: u16, right
     lefts[used] = left;
     rights[used] = right;
     Cell {
-        tree: used as u16,
+        bush: used as u16,
         used: used + 1,
     }
 }

@@ -1,34 +1,34 @@
-// The leaves of a row, read off into two tables: the exponents of the word's reduced form.
+// The tips of a row, read off into two tables: the exponents of the word's reduced form.
 ghost use Prim.Native.Nat.{_≤_, _<_};
 ghost use lib.ListN.{length};
-ghost use Rattle.forest.specs.Moves.{Scratch};
-ghost use Rattle.forest.specs.Leaves.{Standing, LeafRead, StemPassed, Piled, Ended, LongTables};
-ghost use Rattle.forest.specs.Leaves.{LevelsRead, ZerosPut, Tabled};
-use crate::cells::LAST_LEAF;
+ghost use Rattle.forest.specs.inside.Moves.{Scratch};
+ghost use Rattle.forest.specs.inside.Leaves.{Standing, TipRead, StemPassed, Piled, Ended, LongTables};
+ghost use Rattle.forest.specs.inside.Leaves.{LevelsRead, ZerosPut, Tabled};
+use crate::cells::LAST_TIP;
 use crate::cells::pop;
 use crate::cells::push;
 use crate::cells::wide;
 use crate::row::State;
 use crate::row::run;
 
-// The first leaf of a tree: the left edges above it, its exponent, and the height of the stack with the trees behind.
-pub struct Leaf {
+// The first tip of a bush: the left edges above it, its exponent, and the height of the stack with the bushes behind.
+pub struct Tip {
     pub edges: u16,
     pub exponent: u16,
     pub height: usize,
 }
 
-// What is left of a tree below its stem: cells that each have the cell before them on the left and a leaf of exponent
-// 0 on the right. With no tree behind them these leaves are not stored. No turn of the loop waits for a load before it.
-fn below_stem(lefts: &[u16], rights: &[u16], tree: u16, height: usize) -> u16
-    requires { ⌜ (tree < length (now lefts)) × (tree < length (now rights)) ⌝ }
-    ensures { λ r. ⌜ StemPassed (now (lefts .entry)) (now (rights .entry)) tree height r ⌝ }
+// What is left of a bush below its stem: cells that each have the cell before them on the left and a tip of exponent
+// 0 on the right. With no bush behind them these tips are not stored. No turn of the loop waits for a load before it.
+fn below_stem(lefts: &[u16], rights: &[u16], bush: u16, height: usize) -> u16
+    requires { ⌜ (bush < length (now lefts)) × (bush < length (now rights)) ⌝ }
+    ensures { λ r. ⌜ StemPassed (now (lefts .entry)) (now (rights .entry)) bush height r ⌝ }
 {
-    let mut code = tree;
+    let mut code = bush;
     if height != 0 {
         return code;
     }
-    while LAST_LEAF < code {
+    while LAST_TIP < code {
         let next = code - 1;
         let k = wide(code);
         if rights[k] != 0 {
@@ -42,31 +42,31 @@ fn below_stem(lefts: &[u16], rights: &[u16], tree: u16, height: usize) -> u16
     code
 }
 
-// The first leaf of a tree; the trees behind it go onto the stack.
-fn descend(lefts: &[u16], rights: &[u16], stack: &mut [u16], tree: u16, low: usize) -> Leaf
-    requires { ⌜ Standing (now lefts) (now rights) (now stack) tree low ⌝ }
-    ensures { λ r. ⌜ LeafRead (now (lefts .entry)) (now (rights .entry)) (now (stack .entry)) tree low
+// The first tip of a bush; the bushes behind it go onto the stack.
+fn descend(lefts: &[u16], rights: &[u16], stack: &mut [u16], bush: u16, low: usize) -> Tip
+    requires { ⌜ Standing (now lefts) (now rights) (now stack) bush low ⌝ }
+    ensures { λ r. ⌜ TipRead (now (lefts .entry)) (now (rights .entry)) (now (stack .entry)) bush low
         (now (stack .exit)) (r .edges) (r .exponent) (r .height) ⌝ }
 {
-    let mut code = below_stem(lefts, rights, tree, low);
-    let mut edges = tree - code;
+    let mut code = below_stem(lefts, rights, bush, low);
+    let mut edges = bush - code;
     let mut height = low;
-    while LAST_LEAF < code {
+    while LAST_TIP < code {
         let k = wide(code);
         height = push(stack, height, rights[k]);
         code = lefts[k];
         edges += 1;
     }
-    Leaf {
+    Tip {
         edges,
         exponent: code,
         height,
     }
 }
 
-// The leaves on the stack, from the left, are the levels of the form; where it is empty, only leaves of exponent 0 are
+// The tips on the stack, from the left, are the levels of the form; where it is empty, only tips of exponent 0 are
 // left. How many levels were read.
-fn read_leaves(
+fn read_tips(
     word: &[u8],
     low: usize,
     lefts: &[u16],
@@ -88,7 +88,7 @@ fn read_leaves(
             return i;
         }
         let p = pop(stack, height);
-        let l = descend(lefts, rights, stack, p.tree, p.height);
+        let l = descend(lefts, rights, stack, p.bush, p.height);
         b_table[i] = l.edges;
         a_table[i] = l.exponent;
         height = l.height;
@@ -109,7 +109,7 @@ fn zero_rest(table: &mut [u16], low: usize, high: usize)
     }
 }
 
-// The leaves of the row, and behind them the zeros of the indices that do not occur. How many levels were read.
+// The tips of the row, and behind them the zeros of the indices that do not occur. How many levels were read.
 fn read_off(
     word: &[u8],
     s: State,
@@ -126,14 +126,14 @@ fn read_off(
 {
     let low = push(stack, s.height, s.second);
     let height = push(stack, low, s.first);
-    let read = read_leaves(word, height, lefts, rights, stack, b_table, a_table);
+    let read = read_tips(word, height, lefts, rights, stack, b_table, a_table);
     let end = word.len() + 1;
     zero_rest(b_table, read, end);
     zero_rest(a_table, read, end);
     read
 }
 
-// The tables of a word: its row, then the leaves. The scratch is lent with any content. How many levels were read.
+// The tables of a word: its row, then the tips. The scratch is lent with any content. How many levels were read.
 pub fn fill(
     word: &[u8],
     b_table: &mut [u16],

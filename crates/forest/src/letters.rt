@@ -3,7 +3,7 @@
 ghost use mathlib.Core.Path.{_≡_};
 ghost use mathlib.Core.Bool.{false, cond};
 ghost use Rattle.group.specs.Texts.{letterOf};
-ghost use Rattle.forest.specs.Scanning.{isLetter, allLetters, lettersInFront};
+ghost use Rattle.forest.specs.inside.Scanning.{isLetter, allLetters, lettersInFront};
 
 // Whether a byte is a letter.
 fn is_letter(byte: u8) -> bool

@@ -1,6 +1,6 @@
 // The forest engine: the reduced form of a word, one letter in constant time.
 ghost use mathlib.Core.Path.{_≡_};
-ghost use Rattle.refusals.specs.Outcomes.{verdictOf, checked};
+ghost use Rattle.refusals.specs.Outcomes.{verdictOf, dropValue};
 ghost use Rattle.forest.specs.Judging.{judged};
 ghost use Rattle.forest.specs.Filling.{FilledTables};
 use crate::letters::letters_in_front;
@@ -29,7 +29,7 @@ pub enum Filling {
 
 // Refusals 1, 2 and 6, in this order; the lengths are those of the two tables.
 pub fn judge(word: &[u8], b_length: usize, a_length: usize) -> Verdict
-    ensures { λ r. ⌜ verdictOf r ≡ checked (judged (now (word .entry)) «b_length» «a_length») ⌝ }
+    ensures { λ r. ⌜ verdictOf r ≡ dropValue (judged (now (word .entry)) «b_length» «a_length») ⌝ }
 {
     let n = word.len();
     if LIMIT < n {

@@ -1,6 +1,6 @@
-// The row of trees of a word, moved by one letter in constant time.
+// The row of bushes of a word, moved by one letter in constant time.
 ghost use Rattle.group.specs.Letters.{'a, 'A, 'b, 'B};
-ghost use Rattle.forest.specs.Moves.{stepLetter, Ready, Moved, Scratch, Ran};
+ghost use Rattle.forest.specs.inside.Moves.{stepLetter, Ready, Moved, Scratch, Ran};
 use crate::cells::join;
 use crate::cells::left_of;
 use crate::cells::pop;
@@ -8,7 +8,7 @@ use crate::cells::push;
 use crate::cells::right_of;
 use refusals::LIMIT;
 
-// The row: its first two trees, and the height of the stack, which has the others. `used` is the next cell.
+// The row: its first two bushes, and the height of the stack, which has the others. `used` is the next cell.
 pub struct State {
     pub used: usize,
     pub height: usize,
@@ -16,7 +16,7 @@ pub struct State {
     pub second: u16,
 }
 
-// The letter a: the first two trees under one caret.
+// The letter a: the first two bushes under one fork.
 fn join_first(s: State, lefts: &mut [u16], rights: &mut [u16], stack: &[u16]) -> State
     requires { ⌜ Ready (now lefts) (now rights) (now stack) s ⌝ }
     ensures { λ r. ⌜ Moved 'a (now (lefts .entry)) (now (rights .entry)) (now (stack .entry)) s
@@ -27,8 +27,8 @@ fn join_first(s: State, lefts: &mut [u16], rights: &mut [u16], stack: &[u16]) ->
     State {
         used: j.used,
         height: p.height,
-        first: j.tree,
-        second: p.tree,
+        first: j.bush,
+        second: p.bush,
     }
 }
 
@@ -39,16 +39,16 @@ fn join_second(s: State, lefts: &mut [u16], rights: &mut [u16], stack: &[u16]) -
         (now (lefts .exit)) (now (rights .exit)) (now (stack .entry)) r ⌝ }
 {
     let p = pop(stack, s.height);
-    let j = join(lefts, rights, s.used, s.second, p.tree);
+    let j = join(lefts, rights, s.used, s.second, p.bush);
     State {
         used: j.used,
         height: p.height,
         first: s.first,
-        second: j.tree,
+        second: j.bush,
     }
 }
 
-// The letter A: the first tree parts.
+// The letter A: the first bush parts.
 fn part_first(s: State, lefts: &[u16], rights: &[u16], stack: &mut [u16]) -> State
     requires { ⌜ Ready (now lefts) (now rights) (now stack) s ⌝ }
     ensures { λ r. ⌜ Moved 'A (now (lefts .entry)) (now (rights .entry)) (now (stack .entry)) s
@@ -65,7 +65,7 @@ fn part_first(s: State, lefts: &[u16], rights: &[u16], stack: &mut [u16]) -> Sta
     }
 }
 
-// The letter B: the second tree parts.
+// The letter B: the second bush parts.
 fn part_second(s: State, lefts: &[u16], rights: &[u16], stack: &mut [u16]) -> State
     requires { ⌜ Ready (now lefts) (now rights) (now stack) s ⌝ }
     ensures { λ r. ⌜ Moved 'B (now (lefts .entry)) (now (rights .entry)) (now (stack .entry)) s

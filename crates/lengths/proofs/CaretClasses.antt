@@ -18,22 +18,22 @@ use Rattle.trees.specs.Trees.{
   carets,
   Address,
   caretPlaces,
-  Caret,
+  IsCaret,
   Subtree,
   LeftSide,
   RightSide,
 }
 use Rattle.trees.proofs.Carets.{carets-numbered, caret-subtree, right-child}
 use Rattle.lengths.specs.Classes.{Class, onLeft, onRight, insideLeaf, insideCaret, insideOver, classes}
-use Rattle.lengths.specs.Kinds.{OnLeft, OnRight, Interior, RightLeaf, inside}
+use Rattle.lengths.specs.Kinds.{IsOnLeft, IsOnRight, Interior, RightLeaf, inside}
 use Rattle.lengths.proofs.ShapeClasses.{classes-length}
-use Rattle.lengths.proofs.LaterKinds.{InsideAt}
+use Rattle.lengths.proofs.LaterKinds.{IsInside}
 use Rattle.lengths.proofs.Places.{addressClass, class-at, class-left, class-right, class-interior}
 
 -- Caret k of the tree has the class.
 abbrev pub IsClass : Tree → ℕ → Class → Type 0
-IsClass t k onLeft = OnLeft t k
-IsClass t k onRight = OnRight t k
+IsClass t k onLeft = IsOnLeft t k
+IsClass t k onRight = IsOnRight t k
 IsClass t k insideLeaf = Interior t k × RightLeaf t k
 IsClass t k insideCaret = Interior t k × (RightLeaf t k → ⊥)
 
@@ -45,20 +45,20 @@ subtree-same (caret l r) (𝟎 ∷ u) x y h g = subtree-same l u x y h g
 subtree-same (caret l r) (𝟏 ∷ u) x y h g = subtree-same r u x y h g
 
 -- A number below N is that of a caret, which has an address and a right child.
-pub caret-of : (t : Tree) (k : ℕ) → k < carets t → (v : Address) × Caret t k v
+pub caret-of : (t : Tree) (k : ℕ) → k < carets t → (v : Address) × IsCaret t k v
 caret-of t k h = at-exists (caretPlaces t) k (omega (arith, carets-numbered t))
 
-child-of : (t : Tree) (k : ℕ) (v : Address) → Caret t k v → (x : Tree) × Subtree t (v ++ (𝟏 ∷ [])) x
+child-of : (t : Tree) (k : ℕ) (v : Address) → IsCaret t k v → (x : Tree) × Subtree t (v ++ (𝟏 ∷ [])) x
 child-of t k v h =
     let s = caret-subtree t k v h in
     (s .1, right-child t v (s .0) (s .1) (s .2))
 
 -- The right child of the caret at an address is a leaf, or it is not.
-right-leaf : (t : Tree) (k : ℕ) (v : Address) → Caret t k v → RightLeaf t k → Subtree t (v ++ (𝟏 ∷ [])) leaf
+right-leaf : (t : Tree) (k : ℕ) (v : Address) → IsCaret t k v → RightLeaf t k → Subtree t (v ++ (𝟏 ∷ [])) leaf
 right-leaf t k v h p =
     subst (λ (u : Address). Subtree t (u ++ (𝟏 ∷ [])) leaf) (at-same (caretPlaces t) k (p .0) v (p .1) h) (p .2)
 
-right-caret : (t : Tree) (k : ℕ) (v : Address) (l r : Tree) → Caret t k v → Subtree t (v ++ (𝟏 ∷ [])) (caret l r)
+right-caret : (t : Tree) (k : ℕ) (v : Address) (l r : Tree) → IsCaret t k v → Subtree t (v ++ (𝟏 ∷ [])) (caret l r)
     → RightLeaf t k → ⊥
 right-caret t k v l r h s p =
     let e : caret l r ≡ leaf = subtree-same t (v ++ (𝟏 ∷ [])) (caret l r) leaf s (right-leaf t k v h p) in
@@ -77,7 +77,7 @@ dec-right (𝟎 ∷ v) = no (λ h. h)
 dec-right (𝟏 ∷ v) = dec-right v
 
 -- The caret at an address has the class of the address.
-class-of : (t : Tree) (k : ℕ) (v : Address) (x : Tree) → Caret t k v → Subtree t (v ++ (𝟏 ∷ [])) x
+class-of : (t : Tree) (k : ℕ) (v : Address) (x : Tree) → IsCaret t k v → Subtree t (v ++ (𝟏 ∷ [])) x
     → IsClass t k (addressClass v (insideOver x))
 class-of t k v x h s = left (dec-left v)
   where
@@ -133,14 +133,14 @@ class-is t k c = (class-entry t k c, back)
         subst (IsClass t k) e (class-of t k (v .0) (x .0) (v .1) (x .1))
 
 -- Caret k is interior just when entry k of the classes is one of the two interior ones.
-pub interior-is : (t : Tree) (k : ℕ) → Interior t k ↔ InsideAt (classes t) k
+pub interior-is : (t : Tree) (k : ℕ) → Interior t k ↔ IsInside (classes t) k
 interior-is t k = (forth, back)
   where
     is-inside : (x : Tree) → T (inside (insideOver x))
     is-inside leaf = tt
     is-inside (caret l r) = tt
 
-    forth : Interior t k → InsideAt (classes t) k
+    forth : Interior t k → IsInside (classes t) k
     forth h =
         let x = child-of t k (h .0) (h .1) in
         (insideOver (x .0), interior-entry t k h (x .0) (x .1), is-inside (x .0))
@@ -151,5 +151,5 @@ interior-is t k = (forth, back)
     of-class insideLeaf p i = p .0
     of-class insideCaret p i = p .0
 
-    back : InsideAt (classes t) k → Interior t k
+    back : IsInside (classes t) k → Interior t k
     back h = of-class (h .0) (class-is t k (h .0) .1 (h .1)) (h .2)

@@ -26,7 +26,7 @@ use Rattle.lengths.specs.Kinds.{
   R0,
   I0,
   IR,
-  OnRight,
+  IsOnRight,
   Interior,
   IsKind,
   nextInside,
@@ -124,7 +124,7 @@ kind-entry t (suc k) IR h = later-entry t k insideCaret (h .1, h .2)
 
 -- The caret of each number below N has a kind.
 right-sentence : (t : Tree) (k : ℕ) (p q : Bool) → (T p ↔ Interior t (suc k)) → (T q ↔ InteriorFrom t (suc k)) → 0 < k
-    → OnRight t k → IsKind t k (rightKind p q)
+    → IsOnRight t k → IsKind t k (rightKind p q)
 right-sentence t k true q hp hq pos o = (pos, o, hp .0 tt)
 right-sentence t k false true hp hq pos o = (pos, o, hp .1, hq .0 tt)
 right-sentence t k false false hp hq pos o = (pos, o, λ j h i. hq .1 (j, h, i))

@@ -9,7 +9,7 @@ use lib.ListN.{length}
 use borrow.Author.Tests.{le-leb}
 use Rattle.lengths.specs.Classes.{Class, onLeft, onRight, insideLeaf, insideCaret}
 use Rattle.lengths.specs.Kinds.{IR, inside, kindOf}
-use Rattle.lengths.specs.Steps.{classByte, classOf, classBytes, classesOf}
+use Rattle.lengths.specs.inside.Steps.{classByte, classOf, classBytes, classesOf}
 
 -- The bytes from 2 on are those of interior carets.
 pub inside-test : (b : ℕ) → leb 2 b ≡ inside (classOf b)

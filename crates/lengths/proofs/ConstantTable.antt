@@ -12,7 +12,7 @@ use Rattle.lengths.specs.declared.table.CaretKind.{CaretKind}
 use Rattle.lengths.specs.declared.table.CaretKind.the-variants as Named
 use Rattle.lengths.specs.Kinds.{Kind, L0, LL, RI, RN, R0, I0, IR}
 use Rattle.lengths.specs.Weights.{weight, tableEntry}
-use Rattle.lengths.specs.Steps.{kindNamed, indexOf}
+use Rattle.lengths.specs.inside.Steps.{kindNamed, indexOf}
 
 -- The kinds in the order of the table; each case of the enum has a row, which is that of its kind.
 abbrev rowKind : ℕ → Kind

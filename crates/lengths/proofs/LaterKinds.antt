@@ -1,5 +1,5 @@
 -- The kinds of a list of classes, entry by entry: what the two tests of the later classes say.
---     InsideAt cs n   entry n of the classes is that of an interior caret
+--     IsInside cs n   entry n of the classes is that of an interior caret
 -- Assumes nothing.
 use mathlib.Core.Path.{_≡_, refl, sym, ap, subst}
 use mathlib.Core.Bool.{Bool, true, false}
@@ -14,11 +14,11 @@ use Rattle.lengths.specs.Classes.{Class}
 use Rattle.lengths.specs.Kinds.{inside, nextInside, either, someInside, kindOf, laterKinds, kindsOf}
 
 -- Entry n of the classes is that of an interior caret.
-abbrev pub InsideAt : List Class → ℕ → Type 0
-InsideAt cs n = (c : Class) × At cs n c × T (inside c)
+abbrev pub IsInside : List Class → ℕ → Type 0
+IsInside cs n = (c : Class) × At cs n c × T (inside c)
 
 -- The first test.
-pub next-inside : (cs : List Class) (n : ℕ) → T (nextInside (drop n cs)) ↔ InsideAt cs n
+pub next-inside : (cs : List Class) (n : ℕ) → T (nextInside (drop n cs)) ↔ IsInside cs n
 next-inside [] zero = ((λ h. absurd h), λ h. absurd (h .1))
 next-inside [] (suc n) = ((λ h. absurd h), λ h. absurd (h .1))
 next-inside (c ∷ cs) zero = ((λ h. (c, refl, h)), λ h. subst (λ (d : Class). T (inside d)) (sym (h .1)) (h .2))
@@ -38,13 +38,13 @@ either-second true q h = tt
 either-second false q h = h
 
 -- The second test.
-some-found : (cs : List Class) (n : ℕ) → T (someInside (drop n cs)) → (j : ℕ) × (n ≤ j) × InsideAt cs j
+some-found : (cs : List Class) (n : ℕ) → T (someInside (drop n cs)) → (j : ℕ) × (n ≤ j) × IsInside cs j
 some-found [] zero h = absurd h
 some-found [] (suc n) h = absurd h
 some-found (c ∷ cs) zero h = go (either-split (inside c) (someInside cs) h) (some-found cs 0)
   where
-    go : T (inside c) ⊎ T (someInside cs) → (T (someInside cs) → (j : ℕ) × (0 ≤ j) × InsideAt cs j)
-        → (j : ℕ) × (0 ≤ j) × InsideAt (c ∷ cs) j
+    go : T (inside c) ⊎ T (someInside cs) → (T (someInside cs) → (j : ℕ) × (0 ≤ j) × IsInside cs j)
+        → (j : ℕ) × (0 ≤ j) × IsInside (c ∷ cs) j
     go (inl p) later = (0, omega arith, (c, refl, p))
     go (inr p) later =
         let f = later p in
@@ -53,7 +53,7 @@ some-found (c ∷ cs) (suc n) h =
     let f = some-found cs n h in
     (suc (f .0), omega (arith, f .1), f .2)
 
-some-there : (cs : List Class) (n j : ℕ) → n ≤ j → InsideAt cs j → T (someInside (drop n cs))
+some-there : (cs : List Class) (n j : ℕ) → n ≤ j → IsInside cs j → T (someInside (drop n cs))
 some-there [] n j h i = absurd (i .1)
 some-there (c ∷ cs) zero zero h i =
     either-first (inside c) (someInside cs) (subst (λ (d : Class). T (inside d)) (sym (i .1)) (i .2))
@@ -62,7 +62,7 @@ some-there (c ∷ cs) (suc n) zero h i = absurd (omega arith)
 some-there (c ∷ cs) (suc n) (suc j) h i = some-there cs n j (omega arith) i
 
 pub some-inside : (cs : List Class) (n : ℕ)
-    → T (someInside (drop n cs)) ↔ ((j : ℕ) × (n ≤ j) × InsideAt cs j)
+    → T (someInside (drop n cs)) ↔ ((j : ℕ) × (n ≤ j) × IsInside cs j)
 some-inside cs n = (some-found cs n, λ f. some-there cs n (f .0) (f .1) (f .2))
 
 -- The kind at a number, from the class there and the classes behind it.

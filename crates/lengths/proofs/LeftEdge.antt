@@ -7,8 +7,8 @@ use lib.ListN.{length, drop, getD, set, length-set}
 use lib.Seq.{sets}
 use Rattle.trees.specs.Shapes.{Exact}
 use Rattle.lengths.specs.Classes.{Class, onLeft}
-use Rattle.lengths.specs.Reading.{sideClasses, leftEdgeClasses, shapeClasses}
-use Rattle.lengths.specs.Steps.{classBytes, leavesIn, leftCarets, Readable, Shaped}
+use Rattle.lengths.specs.inside.Reading.{sideClasses, leftEdgeClasses, shapeClasses}
+use Rattle.lengths.specs.inside.Steps.{classBytes, leavesIn, leftCarets, Readable, Shaped}
 use Rattle.lengths.proofs.ReadSteps.{exact-leaves, exact-node, drop-node, exact-zero, exact-caret}
 
 -- Amid the carets in front of the first leaf: k of them are counted.

@@ -15,7 +15,7 @@ use Rattle.refusals.proofs.Outcomes.{accepted-refused}
 use Rattle.trees.specs.Building.{needed, treeOf}
 use Rattle.trees.specs.Pairs.{caretsOfSides, maxCarets}
 use Rattle.trees.specs.Shapes.{shape, shapeSize, Exact}
-use Rattle.trees.specs.Writing.{pairingOf, tableCarets, pairCarets, WrotePair}
+use Rattle.trees.specs.inside.Writing.{pairingOf, tableCarets, pairCarets, WrotePair}
 use Rattle.trees.specs.declared.Pairing.{Pairing}
 use Rattle.trees.specs.declared.Pairing.the-variants.{Carets}
 use Rattle.trees.proofs.Pairing as Answer
@@ -27,9 +27,9 @@ use Rattle.lengths.specs.declared.Length.the-variants.{Letters}
 use Rattle.lengths.specs.Classes.{Class}
 use Rattle.lengths.specs.Kinds.{kindsOf}
 use Rattle.lengths.specs.Weights.{weights}
-use Rattle.lengths.specs.Reading.{shapeClasses}
-use Rattle.lengths.specs.Contracts.{lengthOf, tableLength}
-use Rattle.lengths.specs.Steps.{lengthWithin, PairShaped, Rooms}
+use Rattle.lengths.specs.inside.Reading.{shapeClasses}
+use Rattle.lengths.specs.inside.Contracts.{lengthOf, tableLength}
+use Rattle.lengths.specs.inside.Steps.{lengthWithin, PairShaped, Rooms}
 use Rattle.lengths.proofs.ShapeClasses.{shape-classes}
 
 -- Beside buffers for m carets: no pair is written, or the pair of the tables.

@@ -11,7 +11,7 @@ use lib.ListN.{length, length-append}
 use Rattle.lists.specs.Entries.{At}
 use Rattle.lists.proofs.Entries.{at-first, at-second}
 use Rattle.group.specs.Points.{𝟎, 𝟏}
-use Rattle.trees.specs.Trees.{Tree, leaf, caret, carets, Address, Caret, Subtree, LeftSide, RightSide}
+use Rattle.trees.specs.Trees.{Tree, leaf, caret, carets, Address, IsCaret, Subtree, LeftSide, RightSide}
 use Rattle.trees.proofs.Carets.{CaretAt, to-caret}
 use Rattle.lengths.specs.Classes.{
   Class,
@@ -89,7 +89,7 @@ classes-order leaf = refl
 classes-order (caret l r) = ap₂ (λ (x y : List Class). x ++ (onLeft ∷ y)) (left-order l) (right-order r)
 
 -- The class of caret k, by its address and its right child.
-pub class-at : (t : Tree) (k : ℕ) (v : Address) (x : Tree) → Caret t k v → Subtree t (v ++ (𝟏 ∷ [])) x
+pub class-at : (t : Tree) (k : ℕ) (v : Address) (x : Tree) → IsCaret t k v → Subtree t (v ++ (𝟏 ∷ [])) x
     → At (classes t) k (addressClass v (insideOver x))
 class-at t k v x h s =
     subst (λ (cs : List Class). At cs k (addressClass v (insideOver x))) (classes-order t)

@@ -6,13 +6,13 @@ use mathlib.Core.List.{List}
 use Prim.Native.Nat.{ℕ, suc, _+_, _<_, _≤_}
 use native.Mathlib.Omega.{arith}
 use lib.ListN.{drop}
-use Rattle.lists.specs.Writes.{Writing}
+use Rattle.lists.specs.inside.Writes.{Writing}
 use Rattle.lists.proofs.Writes.{write-start, writing-then}
 use Rattle.lengths.specs.declared.reader.Amid.{Amid}
 use Rattle.lengths.specs.declared.reader.Place.{Place}
-use Rattle.lengths.specs.Reading.{classesFrom, pendingClasses}
-use Rattle.lengths.specs.Steps.{classBytes, afterDue}
-use Rattle.lengths.specs.Steps.{Readable, Hanging, NodeReady, NodeRead, SubtreeRead}
+use Rattle.lengths.specs.inside.Reading.{classesFrom, pendingClasses}
+use Rattle.lengths.specs.inside.Steps.{classBytes, afterDue}
+use Rattle.lengths.specs.inside.Steps.{Readable, Hanging, NodeReady, NodeRead, SubtreeRead}
 use Rattle.lengths.proofs.ReadSteps.{due-some}
 
 pub record Amidst (shape : List ℕ) (at₀ caret₀ : ℕ) (entry : List ℕ) (p k pending : ℕ) (now : List ℕ) : Type 0 where

@@ -10,14 +10,14 @@ use native.Mathlib.Omega.{arith}
 use native.Mathlib.Decide.{decLt}
 use lib.ListN.{length, drop, getD, set, length-set, drop-of-length-le}
 use lib.Seq.{drop-cons}
-use Rattle.lists.specs.Writes.{Writing}
+use Rattle.lists.specs.inside.Writes.{Writing}
 use Rattle.lists.proofs.Writes.{write-start, write-more, writing-same}
 use Rattle.trees.specs.Pairs.{maxCarets}
 use Rattle.trees.specs.Shapes.{Exact}
 use Rattle.lengths.specs.declared.reader.Amid.{Amid}
 use Rattle.lengths.specs.Classes.{Class}
-use Rattle.lengths.specs.Reading.{insideAt, classesFrom, nextOnSide, pendingClasses}
-use Rattle.lengths.specs.Steps.{classByte, classBytes, leavesIn, afterDue, Readable, NodeReady, NodeRead}
+use Rattle.lengths.specs.inside.Reading.{insideAt, classesFrom, nextOnSide, pendingClasses}
+use Rattle.lengths.specs.inside.Steps.{classByte, classBytes, leavesIn, afterDue, Readable, NodeReady, NodeRead}
 
 -- The shapes of n trees have n leaves or more, and a byte.
 pub exact-leaves : (s : List ℕ) (n : ℕ) → Exact s n → n ≤ leavesIn s

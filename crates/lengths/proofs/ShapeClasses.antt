@@ -19,7 +19,8 @@ use Rattle.lengths.specs.Classes.{
   rightClasses,
   classes,
 }
-use Rattle.lengths.specs.Reading.{insideAt, classesFrom, sideClasses, nextOnSide, leftEdgeClasses, shapeClasses}
+use Rattle.lengths.specs.inside.Reading.{insideAt, classesFrom, sideClasses, nextOnSide, leftEdgeClasses}
+use Rattle.lengths.specs.inside.Reading.{shapeClasses}
 
 -- Behind an interior subtree comes the caret whose left subtree it ends: of the side, where no other is open.
 abbrev pub closing : List ℕ → (o l : ℕ) → List Class

@@ -16,8 +16,8 @@ use Rattle.trees.proofs.Shapes.{shape-length, exact-shape}
 use Rattle.lengths.specs.Classes.{Class}
 use Rattle.lengths.specs.Kinds.{kindsOf}
 use Rattle.lengths.specs.Weights.{weights}
-use Rattle.lengths.specs.Reading.{shapeClasses}
-use Rattle.lengths.specs.Steps.{classBytes, classesOf, leavesIn, Readable, PairShaped}
+use Rattle.lengths.specs.inside.Reading.{shapeClasses}
+use Rattle.lengths.specs.inside.Steps.{classBytes, classesOf, leavesIn, Readable, PairShaped}
 use Rattle.lengths.proofs.ShapeClasses.{shape-classes, classes-length}
 use Rattle.lengths.proofs.ClassBytes.{classes-read, bytes-length}
 

@@ -9,8 +9,9 @@ use lib.Seq.{sets}
 use Rattle.trees.specs.Pairs.{maxCarets}
 use Rattle.lengths.specs.declared.reader.Place.{Place}
 use Rattle.lengths.specs.Classes.{Class}
-use Rattle.lengths.specs.Reading.{insideAt, classesFrom, sideClasses, nextOnSide}
-use Rattle.lengths.specs.Steps.{classByte, classBytes, leavesIn, onSide, fewer, Readable, Hanging, SubtreeRead}
+use Rattle.lengths.specs.inside.Reading.{insideAt, classesFrom, sideClasses, nextOnSide}
+use Rattle.lengths.specs.inside.Steps.{classByte, classBytes, leavesIn, onSide, fewer, Readable, Hanging}
+use Rattle.lengths.specs.inside.Steps.{SubtreeRead}
 use Rattle.lengths.proofs.ReadSteps.{exact-leaves, node-there, node-is, node-zero, behind-caret}
 use Rattle.lengths.proofs.ReadLoops.{as-many}
 

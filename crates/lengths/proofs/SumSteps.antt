@@ -14,7 +14,7 @@ use Rattle.lengths.specs.declared.sums.Behind.{Behind}
 use Rattle.lengths.specs.Classes.{Class}
 use Rattle.lengths.specs.Kinds.{Kind, inside, nextInside, someInside, kindOf, laterKinds, kindsOf}
 use Rattle.lengths.specs.Weights.{weight, weights}
-use Rattle.lengths.specs.Steps.{classOf, classesOf, kindNamed, seen}
+use Rattle.lengths.specs.inside.Steps.{classOf, classesOf, kindNamed, seen}
 use Rattle.lengths.proofs.Weights.{weight-most}
 
 -- The answer of `before`, by the test of the class.

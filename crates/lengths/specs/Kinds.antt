@@ -8,7 +8,7 @@ use mathlib.Core.Bool.{Bool, true, false}
 use mathlib.Core.List.{List, [], _∷_, _++_}
 use Prim.Native.Nat.{ℕ, suc, _<_}
 use Rattle.group.specs.Points.{𝟏}
-use Rattle.trees.specs.Trees.{Tree, leaf, Address, Caret, Subtree, LeftSide, RightSide}
+use Rattle.trees.specs.Trees.{Tree, leaf, Address, IsCaret, Subtree, LeftSide, RightSide}
 use Rattle.lengths.specs.Classes.{Class, onLeft, onRight, insideLeaf, insideCaret, classes}
 
 -- L0, the caret 0; LL, RI, RN, R0, I0 and IR as below.
@@ -16,33 +16,33 @@ pub data Kind : Type 0 where
   L0 LL RI RN R0 I0 IR : Kind
 
 -- Caret k is on the left side: the root, or reached from it by left edges only.
-abbrev pub OnLeft : Tree → ℕ → Type 0
-OnLeft t k = (v : Address) × Caret t k v × LeftSide v
+abbrev pub IsOnLeft : Tree → ℕ → Type 0
+IsOnLeft t k = (v : Address) × IsCaret t k v × LeftSide v
 
 -- Caret k is on the right side, which leaves out the root.
-abbrev pub OnRight : Tree → ℕ → Type 0
-OnRight t k = (v : Address) × Caret t k v × RightSide v × (v ≡ [] → ⊥)
+abbrev pub IsOnRight : Tree → ℕ → Type 0
+IsOnRight t k = (v : Address) × IsCaret t k v × RightSide v × (v ≡ [] → ⊥)
 
 -- Every other caret is interior.
 abbrev pub Interior : Tree → ℕ → Type 0
-Interior t k = (v : Address) × Caret t k v × (LeftSide v → ⊥) × (RightSide v → ⊥)
+Interior t k = (v : Address) × IsCaret t k v × (LeftSide v → ⊥) × (RightSide v → ⊥)
 
 -- The right child of caret k is a leaf.
 abbrev pub RightLeaf : Tree → ℕ → Type 0
-RightLeaf t k = (v : Address) × Caret t k v × Subtree t (v ++ (𝟏 ∷ [])) leaf
+RightLeaf t k = (v : Address) × IsCaret t k v × Subtree t (v ++ (𝟏 ∷ [])) leaf
 
 -- Caret k of the tree is of the kind.
 abbrev pub IsKind : Tree → ℕ → Kind → Type 0
 -- caret 0
-IsKind t k L0 = (k ≡ 0) × ((v : Address) × Caret t k v)
+IsKind t k L0 = (k ≡ 0) × ((v : Address) × IsCaret t k v)
 -- any other caret on the left side, the root included
-IsKind t k LL = (0 < k) × OnLeft t k
+IsKind t k LL = (0 < k) × IsOnLeft t k
 -- on the right side, and the next caret is interior
-IsKind t k RI = (0 < k) × OnRight t k × Interior t (suc k)
+IsKind t k RI = (0 < k) × IsOnRight t k × Interior t (suc k)
 -- on the right side, not RI, some later caret interior
-IsKind t k RN = (0 < k) × OnRight t k × (Interior t (suc k) → ⊥) × ((j : ℕ) × (k < j) × Interior t j)
+IsKind t k RN = (0 < k) × IsOnRight t k × (Interior t (suc k) → ⊥) × ((j : ℕ) × (k < j) × Interior t j)
 -- on the right side, no later caret interior
-IsKind t k R0 = (0 < k) × OnRight t k × ((j : ℕ) → k < j → Interior t j → ⊥)
+IsKind t k R0 = (0 < k) × IsOnRight t k × ((j : ℕ) → k < j → Interior t j → ⊥)
 -- interior with a leaf as right child
 IsKind t k I0 = (0 < k) × Interior t k × RightLeaf t k
 -- any other interior caret

@@ -2,7 +2,5 @@
 pub mod Classes
 pub mod Kinds
 pub mod Weights
-pub mod Reading
--- contracts, and the steps of the functions
-pub mod Contracts
-pub mod Steps
+-- what no claim reaches
+pub mod inside

@@ -2,8 +2,8 @@
 ghost use mathlib.Core.Path.{_≡_};
 ghost use lib.ListN.{length};
 ghost use Rattle.trees.specs.Pairs.{maxCarets};
-ghost use Rattle.lengths.specs.Contracts.{lengthOf, tableLength};
-ghost use Rattle.lengths.specs.Steps.{smallCarets, lengthWithin, Rooms};
+ghost use Rattle.lengths.specs.inside.Contracts.{lengthOf, tableLength};
+ghost use Rattle.lengths.specs.inside.Steps.{smallCarets, lengthWithin, Rooms};
 use trees::MAX_CARETS;
 use trees::Pairing;
 

@@ -4,9 +4,9 @@ ghost use mathlib.Core.Path.{_≡_};
 ghost use Prim.Native.Nat.{suc, _<_};
 ghost use lib.ListN.{length, drop};
 ghost use lib.Seq.{sets};
-ghost use Rattle.lengths.specs.Reading.{insideAt, sideClasses, classesFrom, shapeClasses};
-ghost use Rattle.lengths.specs.Steps.{classByte, classBytes, onSide, fewer as fewerOf, leftCarets};
-ghost use Rattle.lengths.specs.Steps.{Readable, Hanging, NodeReady, NodeRead, SubtreeRead, Shaped};
+ghost use Rattle.lengths.specs.inside.Reading.{insideAt, sideClasses, classesFrom, shapeClasses};
+ghost use Rattle.lengths.specs.inside.Steps.{classByte, classBytes, onSide, fewer as fewerOf, leftCarets};
+ghost use Rattle.lengths.specs.inside.Steps.{Readable, Hanging, NodeReady, NodeRead, SubtreeRead, Shaped};
 use refusals::CaretNumber;
 
 // The classes of carets, as they are kept in a table: on the left side, on the right side, interior with a leaf as

@@ -2,7 +2,7 @@
 ghost use mathlib.Core.Path.{_≡_};
 ghost use Rattle.lengths.specs.Kinds.{kindOf};
 ghost use Rattle.lengths.specs.Weights.{weight as weightOf};
-ghost use Rattle.lengths.specs.Steps.{kindNamed, indexOf, classOf};
+ghost use Rattle.lengths.specs.inside.Steps.{kindNamed, indexOf, classOf};
 use crate::reader::INSIDE_LEAF;
 use crate::reader::LEFT;
 use crate::reader::RIGHT;

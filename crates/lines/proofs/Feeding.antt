@@ -9,7 +9,7 @@ use lib.Dec.{ltb}
 use lib.ListN.{length, drop, getD, set, length-set, drop-of-length-le}
 use lib.Seq.{drop-cons}
 use Rattle.lines.specs.Lines.{lineFeed}
-use Rattle.lines.specs.Feeding.{keptLine, keptCount, Took, took, TookLine}
+use Rattle.lines.specs.Feeding.{keptLine, keptCount, Took, takeLine, TookLine}
 
 -- A byte for which there is room is kept.
 pub keep-inside : (line : List ℕ) (held x : ℕ) → held < length line
@@ -32,26 +32,26 @@ keep-length line held x = cases (ltb held (length line))
 module _ (x : ℕ) (s : List ℕ) (i : ℕ) (line : List ℕ) (held : ℕ) where
   -- A line feed ends the line.
   pub took-end : x ≡ lineFeed
-      → took (x ∷ s) i line held ≡ record { line = line; fed = record { next = i + 1; held = held; ended = true } }
-  unfolding took
+      → takeLine (x ∷ s) i line held ≡ record { line = line; fed = record { next = i + 1; held = held; ended = true } }
+  unfolding takeLine
   took-end e = simp (eq-eqb x lineFeed e)
 
   -- Any other byte is kept.
   pub took-more : (x ≡ lineFeed → ⊥)
-      → took (x ∷ s) i line held ≡ took s (i + 1) (keptLine line held x) (keptCount line held)
-  unfolding took
+      → takeLine (x ∷ s) i line held ≡ takeLine s (i + 1) (keptLine line held x) (keptCount line held)
+  unfolding takeLine
   took-more other = simp (ne-eqb x lineFeed other)
 
 -- Amid a part: what is left of it gives from here what the whole gives from the start.
 pub record Feeding (s : List ℕ) (from : ℕ) (line₀ : List ℕ) (held₀ : ℕ) (line : List ℕ) (i held : ℕ) : Type 0 where
   pub size : length line ≡ length line₀
-  pub same : took (drop i s) i line held ≡ took (drop from s) from line₀ held₀
+  pub same : takeLine (drop i s) i line held ≡ takeLine (drop from s) from line₀ held₀
 
 pub feeding : (s : List ℕ) (from : ℕ) (line₀ : List ℕ) (held₀ : ℕ) → Feeding s from line₀ held₀ line₀ from held₀
 feeding s from line₀ held₀ = record { size = refl; same = refl }
 
 -- Both parts of what is taken.
-took-line : {s : List ℕ} {i : ℕ} {line : List ℕ} {held : ℕ} (t : Took) → t ≡ took s i line held
+took-line : {s : List ℕ} {i : ℕ} {line : List ℕ} {held : ℕ} (t : Took) → t ≡ takeLine s i line held
     → TookLine s i line held (t .line) (t .fed)
 took-line t e = record { leaves = ap (λ (x : Took). x .line) e; result = ap (λ (x : Took). x .fed) e }
 
@@ -65,7 +65,7 @@ module _ {s : List ℕ} {from : ℕ} {line₀ : List ℕ} {held₀ : ℕ} {line 
     pub feed-end : getD s i 0 ≡ lineFeed
         → TookLine (drop from s) from line₀ held₀ line (record { next = i + 1; held = held; ended = true })
     feed-end e =
-        let here : took (drop i s) i line held ≡ record {
+        let here : takeLine (drop i s) i line held ≡ record {
           line = line;
           fed = record { next = i + 1; held = held; ended = true };
         } = rw next (took-end (getD s i 0) (drop (i + 1) s) i line held e) in
@@ -75,8 +75,8 @@ module _ {s : List ℕ} {from : ℕ} {line₀ : List ℕ} {held₀ : ℕ} {line 
     pub feed-more : (line′ : List ℕ) (held′ : ℕ) → (getD s i 0 ≡ lineFeed → ⊥) → line′ ≡ keptLine line held (getD s i 0)
         → held′ ≡ keptCount line held → Feeding s from line₀ held₀ line′ (i + 1) held′
     feed-more line′ held′ other e e′ =
-        let here : took (drop i s) i line held
-        ≡ took (drop (i + 1) s) (i + 1) (keptLine line held (getD s i 0)) (keptCount line held) =
+        let here : takeLine (drop i s) i line held
+        ≡ takeLine (drop (i + 1) s) (i + 1) (keptLine line held (getD s i 0)) (keptCount line held) =
         rw next (took-more (getD s i 0) (drop (i + 1) s) i line held other) in
         record {
           size = ap length e ∙ keep-length line held (getD s i 0) ∙ f .size;
@@ -86,11 +86,11 @@ module _ {s : List ℕ} {from : ℕ} {line₀ : List ℕ} {held₀ : ℕ} {line 
   -- The part ends.
   pub feed-out : length s ≤ i
       → TookLine (drop from s) from line₀ held₀ line (record { next = i; held = held; ended = false })
-  unfolding took
+  unfolding takeLine
   feed-out le =
-      let here : took (drop i s) i line held ≡ record {
+      let here : takeLine (drop i s) i line held ≡ record {
         line = line;
         fed = record { next = i; held = held; ended = false };
       } =
-      ap (λ (t : List ℕ). took t i line held) (drop-of-length-le s le) in
+      ap (λ (t : List ℕ). takeLine t i line held) (drop-of-length-le s le) in
       took-line _ (sym here ∙ f .same)

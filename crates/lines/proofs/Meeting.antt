@@ -8,20 +8,21 @@ use native.Mathlib.Omega.{arith}
 use lib.ListN.{length, take}
 use borrow.Author.Tests.{eq-eqb, ne-eqb}
 use Rattle.lines.specs.Lines.{lineFeed, lastLine, linesFrom, linesOf, cutTo, wholeOf}
-use Rattle.lines.specs.Feeding.{keptLine, keptCount, Met, lineThen, met, metIn}
+use Rattle.lines.specs.Feeding.{keptLine, keptCount, Met, lineThen, meetLines, metIn}
 use Rattle.lines.proofs.Feeding.{keep-length}
 use Rattle.lines.proofs.Lines.{lines-end, lines-more}
 use Rattle.lines.proofs.Holding.{Holding, hold-none, hold-more}
 
 module _ (s : List ℕ) (line : List ℕ) (held x : ℕ) where
   -- A line feed ends the line.
-  pub met-end : x ≡ lineFeed → met (x ∷ s) line held ≡ lineThen (take held line) (met s line 0)
-  unfolding met
+  pub met-end : x ≡ lineFeed → meetLines (x ∷ s) line held ≡ lineThen (take held line) (meetLines s line 0)
+  unfolding meetLines
   met-end e = simp (eq-eqb x lineFeed e)
 
   -- Any other byte is kept.
-  pub met-more : (x ≡ lineFeed → ⊥) → met (x ∷ s) line held ≡ met s (keptLine line held x) (keptCount line held)
-  unfolding met
+  pub met-more : (x ≡ lineFeed → ⊥)
+      → meetLines (x ∷ s) line held ≡ meetLines s (keptLine line held x) (keptCount line held)
+  unfolding meetLines
   met-more other = simp (ne-eqb x lineFeed other)
 
 -- All lines, an unended last one with them.
@@ -30,18 +31,21 @@ closed m = m .lines ++ lastLine (take (m .held) (m .line))
 
 -- The lines of a part, and behind them those of the bytes t, taken from what the part left.
 abbrev thenLines : List ℕ → Met → List (List ℕ)
-thenLines t m = m .lines ++ closed (met t (m .line) (m .held))
+thenLines t m = m .lines ++ closed (meetLines t (m .line) (m .held))
 
 -- A part behind another is taken from what the first left.
-met-append : (s t line : List ℕ) (held : ℕ) → closed (met (s ++ t) line held) ≡ thenLines t (met s line held)
-unfolding met
+met-append : (s t line : List ℕ) (held : ℕ)
+    → closed (meetLines (s ++ t) line held) ≡ thenLines t (meetLines s line held)
+unfolding meetLines
 met-append [] t line held = refl
 met-append (x ∷ s) t line held = go (λ line′ held′. met-append s t line′ held′) (ℕ-discrete x lineFeed)
   where
     Rest : Type 0
-    Rest = (line′ : List ℕ) (held′ : ℕ) → closed (met (s ++ t) line′ held′) ≡ thenLines t (met s line′ held′)
+    Rest =
+        (line′ : List ℕ) (held′ : ℕ) → closed (meetLines (s ++ t) line′ held′) ≡ thenLines t (meetLines s line′ held′)
 
-    go : Rest → Dec (x ≡ lineFeed) → closed (met (x ∷ (s ++ t)) line held) ≡ thenLines t (met (x ∷ s) line held)
+    go : Rest → Dec (x ≡ lineFeed)
+        → closed (meetLines (x ∷ (s ++ t)) line held) ≡ thenLines t (meetLines (x ∷ s) line held)
     go rest (yes e) =
         ap closed (met-end (s ++ t) line held x e)
         ∙ ap (λ (ls : List (List ℕ)). take held line ∷ ls) (rest line 0)
@@ -52,12 +56,12 @@ met-append (x ∷ s) t line held = go (λ line′ held′. met-append s t line�
 
 -- The parts are met as the whole is.
 met-parts : (parts : List (List ℕ)) (line : List ℕ) (held : ℕ)
-    → metIn parts line held ≡ closed (met (wholeOf parts) line held)
-unfolding met
+    → metIn parts line held ≡ closed (meetLines (wholeOf parts) line held)
+unfolding meetLines
 met-parts [] line held = refl
 met-parts (part ∷ parts) line held =
-    ap (λ (ls : List (List ℕ)). met part line held .lines ++ ls)
-    (met-parts parts (met part line held .line) (met part line held .held))
+    ap (λ (ls : List (List ℕ)). meetLines part line held .lines ++ ls)
+    (met-parts parts (meetLines part line held .line) (meetLines part line held .held))
     ∙ sym (met-append part (wholeOf parts) line held)
 
 -- The unended last line, cut.
@@ -68,8 +72,8 @@ last-cut (suc m) (x ∷ l) some = refl
 
 -- The bytes s behind the begun line l.
 met-from : (s l line : List ℕ) (held m : ℕ) → Holding l line held → length line ≡ m → 0 < m
-    → closed (met s line held) ≡ cutTo m (linesFrom l s)
-unfolding met linesFrom
+    → closed (meetLines s line held) ≡ cutTo m (linesFrom l s)
+unfolding meetLines linesFrom
 met-from [] l line held m h size some =
     ap lastLine (h .bytes ∙ ap (λ (n : ℕ). take n l) size) ∙ last-cut m l some
 met-from (x ∷ s) l line held m h size some =
@@ -77,9 +81,9 @@ met-from (x ∷ s) l line held m h size some =
   where
     Rest : Type 0
     Rest = (l′ line′ : List ℕ) (held′ : ℕ) → Holding l′ line′ held′ → length line′ ≡ m
-        → closed (met s line′ held′) ≡ cutTo m (linesFrom l′ s)
+        → closed (meetLines s line′ held′) ≡ cutTo m (linesFrom l′ s)
 
-    go : Rest → Dec (x ≡ lineFeed) → closed (met (x ∷ s) line held) ≡ cutTo m (linesFrom l (x ∷ s))
+    go : Rest → Dec (x ≡ lineFeed) → closed (meetLines (x ∷ s) line held) ≡ cutTo m (linesFrom l (x ∷ s))
     go rest (yes e) =
         ap closed (met-end s line held x e)
         ∙ ap₂ (λ (y : List ℕ) (ls : List (List ℕ)). y ∷ ls) (h .bytes ∙ ap (λ (n : ℕ). take n l) size)

@@ -1,7 +1,7 @@
 -- A line that is kept in a buffer, byte by byte (01, 'The receipt program'): the first bytes, as many as there is room
 -- for, are held. A line is thus cut to the size of the buffer, and a line of any length needs no more memory.
---     took s i line held   what `feed` leaves of a part of an input
---     met s line held      the lines that end in a part; metIn: in the parts of an input, with an unended last line
+--     takeLine s i line held  what `feed` leaves of a part of an input
+--     meetLines s line held   the lines that end in a part; metIn: in the parts of an input, with an unended last line
 -- Assumes nothing.
 use mathlib.Core.Path.{_≡_}
 use mathlib.Core.Bool.{true, false, cond}
@@ -26,16 +26,16 @@ pub record Took : Type 0 where
   pub fed : Fed
 
 -- The bytes s, which begin at the place i: those up to and with the first line feed are taken, or all.
-unfoldable pub took : (s : List ℕ) (i : ℕ) (line : List ℕ) (held : ℕ) → Took
-took [] i line held = record { line = line; fed = record { next = i; held = held; ended = false } }
-took (x ∷ s) i line held =
+unfoldable pub takeLine : (s : List ℕ) (i : ℕ) (line : List ℕ) (held : ℕ) → Took
+takeLine [] i line held = record { line = line; fed = record { next = i; held = held; ended = false } }
+takeLine (x ∷ s) i line held =
     cond (eqb x lineFeed) (record { line = line; fed = record { next = i + 1; held = held; ended = true } })
-    (took s (i + 1) (keptLine line held x) (keptCount line held))
+    (takeLine s (i + 1) (keptLine line held x) (keptCount line held))
 
 -- The contract of `feed`.
 pub record TookLine (s : List ℕ) (i : ℕ) (line : List ℕ) (held : ℕ) (line′ : List ℕ) (r : Fed) : Type 0 where
-  pub leaves : line′ ≡ took s i line held .line
-  pub result : r ≡ took s i line held .fed
+  pub leaves : line′ ≡ takeLine s i line held .line
+  pub result : r ≡ takeLine s i line held .fed
 
 -- The lines that ended, as they were held, and behind them the buffer and the count of the line that has begun.
 pub record Met : Type 0 where
@@ -48,14 +48,14 @@ abbrev pub lineThen : List ℕ → Met → Met
 lineThen l m = record { lines = l ∷ m .lines; line = m .line; held = m .held }
 
 -- The bytes are taken: at a line feed the bytes that are held are a line, any other byte is kept.
-unfoldable pub met : (s line : List ℕ) (held : ℕ) → Met
-met [] line held = record { lines = []; line = line; held = held }
-met (x ∷ s) line held =
-    cond (eqb x lineFeed) (lineThen (take held line) (met s line 0))
-    (met s (keptLine line held x) (keptCount line held))
+unfoldable pub meetLines : (s line : List ℕ) (held : ℕ) → Met
+meetLines [] line held = record { lines = []; line = line; held = held }
+meetLines (x ∷ s) line held =
+    cond (eqb x lineFeed) (lineThen (take held line) (meetLines s line 0))
+    (meetLines s (keptLine line held x) (keptCount line held))
 
 -- The lines that are met in the parts of an input, each part from what the one before left, and the unended last line.
 abbrev pub metIn : (parts : List (List ℕ)) (line : List ℕ) (held : ℕ) → List (List ℕ)
 metIn [] line held = lastLine (take held line)
 metIn (part ∷ parts) line held =
-    met part line held .lines ++ metIn parts (met part line held .line) (met part line held .held)
+    meetLines part line held .lines ++ metIn parts (meetLines part line held .line) (meetLines part line held .held)

@@ -12,7 +12,7 @@ use native.Mathlib.Omega.{arith}
 use lib.ListN.{take, drop, length, set, replicate, length-append, length-set, length-drop, length-replicate}
 use lib.ListN.{replicate-append-replicate, take-append-drop, drop-of-length-le}
 use lib.Seq.{take-all, take-at, drop-at, sets, sets-eq, length-sets, drop-set-add, take-set-le}
-use Rattle.lists.specs.Writes.{Wrote, Writing}
+use Rattle.lists.specs.inside.Writes.{Wrote, Writing}
 
 pub sets-append : (a l : List ℕ) (i : ℕ) (b : List ℕ) → sets (sets l i a) (i + length a) b ≡ sets l i (a ++ b)
 sets-append [] l i b = ap (λ (k : ℕ). sets l k b) (add-zero i)

@@ -2,4 +2,5 @@
 pub mod Copies
 pub mod Entries
 pub mod Tables
-pub mod Writes
+-- what no claim reaches
+pub mod inside

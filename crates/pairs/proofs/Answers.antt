@@ -16,17 +16,17 @@ use Rattle.refusals.specs.declared.Verdict.{Verdict}
 use Rattle.refusals.specs.declared.Verdict.the-variants.{Accepted, Refused}
 use Rattle.refusals.proofs.Outcomes.{accepted-refused, refused-number}
 use Rattle.records.specs.Reading.{decode}
-use Rattle.records.specs.Contracts.{Decoded}
+use Rattle.records.specs.inside.Contracts.{Decoded}
 use Rattle.records.proofs.ClearedTables.{Cleared, cleared, Read, read-refused, read-accepted}
 use Rattle.trees.specs.Trees.{Tree}
 use Rattle.trees.specs.Building.{treeOf}
 use Rattle.trees.specs.Pairs.{caretsOf, minusTree, plusTree}
 use Rattle.trees.specs.Shapes.{shape, shapeSize}
-use Rattle.trees.specs.Writing.{pairingOf, tableCarets, pairCarets, shapeAfter, WrotePair}
+use Rattle.trees.specs.inside.Writing.{pairingOf, tableCarets, pairCarets, shapeAfter, WrotePair}
 use Rattle.trees.specs.declared.Pairing.{Pairing}
 use Rattle.trees.specs.declared.Pairing.the-variants as Written
 use Rattle.lengths.specs.Weights.{pairLength, formLength}
-use Rattle.lengths.specs.Contracts.{lengthOf, tableLength}
+use Rattle.lengths.specs.inside.Contracts.{lengthOf, tableLength}
 use Rattle.lengths.specs.declared.Length.{Length}
 use Rattle.lengths.specs.declared.Length.the-variants as Summed
 use Rattle.pairs.specs.declared.TreePair.{TreePair}

@@ -17,7 +17,7 @@ use Rattle.records.specs.Format.{Within}
 use Rattle.records.proofs.ClearedTables.{Cleared, tableOf, within-behind, table-length, table-at}
 use Rattle.trees.specs.Building.{treeOf}
 use Rattle.trees.specs.Pairs.{caretsOfSides, caretsOf, maxCarets}
-use Rattle.trees.specs.Writing.{tableCarets}
+use Rattle.trees.specs.inside.Writing.{tableCarets}
 use Rattle.trees.proofs.Rows.{tree-same}
 use Rattle.trees.proofs.Needed.{needed-same}
 use Rattle.trees.proofs.Pairs.{carets-limit}

@@ -6,7 +6,7 @@ use native.Mathlib.Numerals.{add-one}
 use native.Mathlib.Omega.{arith}
 use lib.ListN.{length, drop, set, length-drop}
 use Rattle.io.specs.Digits.{glyph}
-use Rattle.lists.specs.Writes.{Wrote}
+use Rattle.lists.specs.inside.Writes.{Wrote}
 use Rattle.lists.proofs.Writes.{wrote-same}
 use Rattle.receipts.specs.Text.{hexOf}
 use Rattle.receipts.proofs.Loops.{Passing, pass-length}

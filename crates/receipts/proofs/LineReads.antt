@@ -15,7 +15,7 @@ use Rattle.records.specs.Format.{bufferSize}
 use Rattle.forest.specs.Judging.{judgedReading}
 use Rattle.words.specs.Recording.{Memory, judgedWith}
 use Rattle.receipts.specs.Receipts.{lineRead}
-use Rattle.receipts.specs.Steps.{LineRoom}
+use Rattle.receipts.specs.inside.Steps.{LineRoom}
 
 module _ (n nb na nr : ℕ) (hb : n ≤ limit → suc n ≤ nb) (ha : n ≤ limit → suc n ≤ na)
     (hr : n ≤ limit → bufferSize n ≤ nr) where

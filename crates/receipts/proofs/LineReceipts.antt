@@ -23,10 +23,10 @@ use Rattle.records.proofs.Lengths.{encode-size}
 use Rattle.trees.specs.Pairs.{caretsOf}
 use Rattle.lengths.specs.Weights.{formLength}
 use Rattle.forest.specs.Filling.{tableAfter}
-use Rattle.words.specs.Recording.{recordOfWord, bufferAfter, Memory, judgedWith, Recorded}
+use Rattle.words.specs.Recording.{encodeWord, bufferAfter, Memory, judgedWith, Recorded}
 use Rattle.words.proofs.Judged.{RecordFit, accepted-record}
 use Rattle.receipts.specs.Receipts.{refusalReceipt, lineRead, receiptBy, receiptOf}
-use Rattle.receipts.specs.Steps.{valueIn, recordRow, tablesRow, LineRoom}
+use Rattle.receipts.specs.inside.Steps.{valueIn, recordRow, tablesRow, LineRoom}
 use Rattle.receipts.proofs.LineReads.{line-judged}
 use Rattle.receipts.proofs.WordTables.{sideTable, table-carets, table-length}
 
@@ -40,16 +40,16 @@ module _ {line : List ℕ} {m m′ : Memory} {r : Written} (h : LineRoom line m)
       → refusalReceipt number (numberOf q) (placeOf q) ≡ receiptOf number line
   receipt-refused q number e =
       let so : judgedWith line m ≡ refused (numberOf q) (placeOf q) =
-      valued-refused (λ w. length (recordOfWord w)) (judgedWith line m) (numberOf q) (placeOf q)
+      valued-refused (λ w. length (encodeWord w)) (judgedWith line m) (numberOf q) (placeOf q)
       (sym (c .result) ∙ ap writtenOf e) in
       ap (receiptBy number) (sym so ∙ judged-line)
 
   -- The line is a word.
   module _ (n : ℕ) (e : r ≡ Bytes n) where
     -- The word, and the number of bytes of its record.
-    found : (w : Word) × (judgedWith line m ≡ accepted w) × (length (recordOfWord w) ≡ n)
+    found : (w : Word) × (judgedWith line m ≡ accepted w) × (length (encodeWord w) ≡ n)
     found =
-        valued-accepted (λ w. length (recordOfWord w)) (judgedWith line m) n (sym (c .result) ∙ ap writtenOf e)
+        valued-accepted (λ w. length (encodeWord w)) (judgedWith line m) n (sym (c .result) ∙ ap writtenOf e)
 
     fit : RecordFit line (length (m .b)) (length (m .a)) (length (m .buffer)) (found .0)
     fit = accepted-record line (length (m .b)) (length (m .a)) (length (m .buffer)) (found .0) (found .1)

@@ -7,7 +7,7 @@ use native.Mathlib.Decide.{ℕ-discrete}
 use native.Mathlib.Omega.{arith}
 use lib.ListN.{length, take}
 use Rattle.lines.specs.Lines.{lineFeed}
-use Rattle.lines.specs.Feeding.{keptLine, keptCount, Met, met}
+use Rattle.lines.specs.Feeding.{keptLine, keptCount, Met, meetLines}
 use Rattle.lines.proofs.Meeting.{met-end, met-more}
 use Rattle.receipts.specs.Receipts.{receiptOf, receiptsFrom}
 use Rattle.receipts.specs.Serving.{Amid, nextNumber, served}
@@ -21,13 +21,13 @@ pub record SameLine (m : Amid) (n : Met) : Type 0 where
 
 -- The line buffer is left as it is where lines are met.
 pub serve-same-line : (s : List ℕ) (k : ℕ) (line : List ℕ) (held : ℕ)
-    → SameLine (served s k line held) (met s line held)
-unfolding served met
+    → SameLine (served s k line held) (meetLines s line held)
+unfolding served meetLines
 serve-same-line [] k line held = record { line = refl; held = refl }
 serve-same-line (x ∷ s) k line held = go (λ k′ line′ held′. serve-same-line s k′ line′ held′) (ℕ-discrete x lineFeed)
   where
-    go : ((k′ : ℕ) (line′ : List ℕ) (held′ : ℕ) → SameLine (served s k′ line′ held′) (met s line′ held′))
-        → Dec (x ≡ lineFeed) → SameLine (served (x ∷ s) k line held) (met (x ∷ s) line held)
+    go : ((k′ : ℕ) (line′ : List ℕ) (held′ : ℕ) → SameLine (served s k′ line′ held′) (meetLines s line′ held′))
+        → Dec (x ≡ lineFeed) → SameLine (served (x ∷ s) k line held) (meetLines (x ∷ s) line held)
     go rest (yes e) =
         let next = rest (nextNumber k) line 0 in
         rw (served-end x s k line held e, met-end s line held x e) record { line = next .line; held = next .held }
@@ -37,18 +37,18 @@ serve-same-line (x ∷ s) k line held = go (λ k′ line′ held′. serve-same-
 
 -- The receipts are those of the lines that are met, where no number wraps.
 pub serve-met-lines : (s : List ℕ) (k : ℕ) (line : List ℕ) (held : ℕ) → k + length s ≤ 2 ^ 64
-    → served s k line held .receipts ≡ receiptsFrom k (met s line held .lines)
-unfolding served met
+    → served s k line held .receipts ≡ receiptsFrom k (meetLines s line held .lines)
+unfolding served meetLines
 serve-met-lines [] k line held few = refl
 serve-met-lines (x ∷ s) k line held few =
     go (λ k′ line′ held′ few′. serve-met-lines s k′ line′ held′ few′) (ℕ-discrete x lineFeed)
   where
     Rest : Type 0
     Rest = (k′ : ℕ) (line′ : List ℕ) (held′ : ℕ) → k′ + length s ≤ 2 ^ 64
-        → served s k′ line′ held′ .receipts ≡ receiptsFrom k′ (met s line′ held′ .lines)
+        → served s k′ line′ held′ .receipts ≡ receiptsFrom k′ (meetLines s line′ held′ .lines)
 
     next : Rest → (t : List ℕ) → t ≡ s
-        → served t (nextNumber k) line 0 .receipts ≡ receiptsFrom (suc k) (met t line 0 .lines)
+        → served t (nextNumber k) line 0 .receipts ≡ receiptsFrom (suc k) (meetLines t line 0 .lines)
     next rest [] e = refl
     next rest (y ∷ t) e =
         let wide : 1 ≤ length s = omega (arith, ap length e) in
@@ -56,10 +56,10 @@ serve-met-lines (x ∷ s) k line held few =
         ap (λ (u : List ℕ). served u (nextNumber k) line 0 .receipts) e
         ∙ ap (λ (n : ℕ). served s n line 0 .receipts) same
         ∙ rest (suc k) line 0 (omega (arith, few))
-        ∙ ap (λ (u : List ℕ). receiptsFrom (suc k) (met u line 0 .lines)) (sym e)
+        ∙ ap (λ (u : List ℕ). receiptsFrom (suc k) (meetLines u line 0 .lines)) (sym e)
 
     go : Rest → Dec (x ≡ lineFeed)
-        → served (x ∷ s) k line held .receipts ≡ receiptsFrom k (met (x ∷ s) line held .lines)
+        → served (x ∷ s) k line held .receipts ≡ receiptsFrom k (meetLines (x ∷ s) line held .lines)
     go rest (yes e) =
         ap (λ (m : Amid). m .receipts) (served-end x s k line held e)
         ∙ ap (λ (r : List ℕ). receiptOf k (take held line) ++ r) (next rest s refl)

@@ -5,7 +5,7 @@ use Prim.Native.Nat.{ℕ, zero, suc, _<_, _≤_}
 use native.Mathlib.Omega.{arith}
 use lib.ListN.{length, take}
 use lib.Seq.{sets}
-use Rattle.lists.specs.Writes.{Wrote}
+use Rattle.lists.specs.inside.Writes.{Wrote}
 use Rattle.lists.proofs.Writes.{wrote-same, wrote-none}
 use Rattle.lines.specs.Lines.{lastLine}
 use Rattle.refusals.specs.Outcomes.{Outcome, accepted, refused, after, valued, writtenOf}

@@ -5,10 +5,10 @@ use Prim.Native.Nat.{ℕ, _+_, _<_, _≤_, _^_}
 use native.Mathlib.Omega.{arith}
 use lib.ListN.{length, length-append}
 use Rattle.lines.specs.Lines.{lineFeed}
-use Rattle.lists.specs.Writes.{Wrote}
+use Rattle.lists.specs.inside.Writes.{Wrote}
 use Rattle.lists.proofs.Writes.{write-then, wrote-same}
 use Rattle.receipts.specs.Text.{decimal, hexOf}
-use Rattle.receipts.specs.Steps.{numberThen, numberSize, fourNumbers, numbersSize, recordRow}
+use Rattle.receipts.specs.inside.Steps.{numberThen, numberSize, fourNumbers, numbersSize, recordRow}
 use Rattle.receipts.proofs.Decimals.{decimal-length}
 
 -- A field with the byte behind it, then the rest.

@@ -6,7 +6,7 @@ use Prim.Native.Nat.{ℕ, _+_, _-_, _^_, _<_, _≤_}
 use native.Mathlib.Omega.{arith}
 use lib.ListN.{length, take, drop, length-take, length-drop, drop-of-length-le}
 use lib.Seq.{drop-drop}
-use Rattle.lists.specs.Writes.{Wrote, Writing}
+use Rattle.lists.specs.inside.Writes.{Wrote, Writing}
 use Rattle.lists.proofs.Writes.{write-start, write-more, write-done, writing-length}
 use Rattle.lines.specs.Feeding.{TookLine}
 use Rattle.lines.specs.declared.Fed.{Fed}

@@ -21,9 +21,9 @@ use Rattle.trees.specs.Pairs.{caretsOf}
 use Rattle.lengths.specs.Weights.{formLength}
 use Rattle.forest.specs.Judging.{judgedReading}
 use Rattle.receipts.specs.Text.{ascii, decimal, hexOf}
-use Rattle.receipts.specs.Receipts.{row, formReceipt, refusalReceipt, lineRead, receiptBy, receiptOf}
+use Rattle.receipts.specs.Receipts.{joinFields, formReceipt, refusalReceipt, lineRead, receiptBy, receiptOf}
 use Rattle.receipts.specs.Serving.{receiptSize}
-use Rattle.receipts.specs.Steps.{refusalSize}
+use Rattle.receipts.specs.inside.Steps.{refusalSize}
 use Rattle.receipts.proofs.Decimals.{decimal-length}
 use Rattle.receipts.proofs.Hex.{hex-length}
 use Rattle.receipts.proofs.WordSizes.{length-most, carets-most}
@@ -31,21 +31,22 @@ use Rattle.receipts.proofs.Lines.{read-long, read-short}
 
 -- The bytes of five fields in a row, and of four.
 five-length : (a b c d e : List ℕ)
-    → length (row (a ∷ b ∷ c ∷ d ∷ e ∷ [])) ≡ length a + length b + length c + length d + length e + 5
+    → length (joinFields (a ∷ b ∷ c ∷ d ∷ e ∷ [])) ≡ length a + length b + length c + length d + length e + 5
 five-length a b c d e =
     let le = length-append e (lineFeed ∷ []) in
-    let ld = length-append d (32 ∷ row (e ∷ [])) in
-    let lc = length-append c (32 ∷ row (d ∷ e ∷ [])) in
-    let lb = length-append b (32 ∷ row (c ∷ d ∷ e ∷ [])) in
-    let la = length-append a (32 ∷ row (b ∷ c ∷ d ∷ e ∷ [])) in
+    let ld = length-append d (32 ∷ joinFields (e ∷ [])) in
+    let lc = length-append c (32 ∷ joinFields (d ∷ e ∷ [])) in
+    let lb = length-append b (32 ∷ joinFields (c ∷ d ∷ e ∷ [])) in
+    let la = length-append a (32 ∷ joinFields (b ∷ c ∷ d ∷ e ∷ [])) in
     omega (arith, le, ld, lc, lb, la)
 
-four-length : (a b c d : List ℕ) → length (row (a ∷ b ∷ c ∷ d ∷ [])) ≡ length a + length b + length c + length d + 4
+four-length : (a b c d : List ℕ)
+    → length (joinFields (a ∷ b ∷ c ∷ d ∷ [])) ≡ length a + length b + length c + length d + 4
 four-length a b c d =
     let ld = length-append d (lineFeed ∷ []) in
-    let lc = length-append c (32 ∷ row (d ∷ [])) in
-    let lb = length-append b (32 ∷ row (c ∷ d ∷ [])) in
-    let la = length-append a (32 ∷ row (b ∷ c ∷ d ∷ [])) in
+    let lc = length-append c (32 ∷ joinFields (d ∷ [])) in
+    let lb = length-append b (32 ∷ joinFields (c ∷ d ∷ [])) in
+    let la = length-append a (32 ∷ joinFields (b ∷ c ∷ d ∷ [])) in
     omega (arith, ld, lc, lb, la)
 
 -- The receipt of a word of n letters.

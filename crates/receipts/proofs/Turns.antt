@@ -8,7 +8,7 @@ use native.Mathlib.Decide.{ℕ-discrete}
 use native.Mathlib.Omega.{arith}
 use lib.ListN.{length, take, drop}
 use Rattle.lines.specs.Lines.{lineFeed}
-use Rattle.lines.specs.Feeding.{keptLine, keptCount, Took, took, TookLine}
+use Rattle.lines.specs.Feeding.{keptLine, keptCount, Took, takeLine, TookLine}
 use Rattle.lines.specs.declared.Fed.{Fed}
 use Rattle.lines.proofs.Feeding.{keep-length, took-end, took-more}
 use Rattle.lines.proofs.Holding.{keep-size}
@@ -74,30 +74,30 @@ module _ (x : ℕ) (s : List ℕ) (i k : ℕ) (line : List ℕ) (held : ℕ) whe
 
 -- By the bytes of the part.
 turn : (s : List ℕ) (i k : ℕ) (line : List ℕ) (held : ℕ)
-    → Turn (took s i line held .fed .ended) s i k line held (took s i line held)
-unfolding served took
+    → Turn (takeLine s i line held .fed .ended) s i k line held (takeLine s i line held)
+unfolding served takeLine
 turn [] i k line held = record { place = omega arith; size = refl; few = omega arith; gives = refl }
 turn (x ∷ s) i k line held =
     go (λ i′ line′ held′. turn s i′ k line′ held′) (ℕ-discrete x lineFeed)
   where
     Rest : Type 0
     Rest = (i′ : ℕ) (line′ : List ℕ) (held′ : ℕ)
-        → Turn (took s i′ line′ held′ .fed .ended) s i′ k line′ held′ (took s i′ line′ held′)
+        → Turn (takeLine s i′ line′ held′ .fed .ended) s i′ k line′ held′ (takeLine s i′ line′ held′)
 
     Goal : Took → Type 0
     Goal t = Turn (t .fed .ended) (x ∷ s) i k line held t
 
-    go : Rest → Dec (x ≡ lineFeed) → Goal (took (x ∷ s) i line held)
+    go : Rest → Dec (x ≡ lineFeed) → Goal (takeLine (x ∷ s) i line held)
     go rest (yes e) = subst Goal (sym (took-end x s i line held e)) (at-end x s i k line held e)
     go rest (no other) =
-        let t : Took = took s (i + 1) (keptLine line held x) (keptCount line held) in
+        let t : Took = takeLine s (i + 1) (keptLine line held x) (keptCount line held) in
         subst Goal (sym (took-more x s i line held other))
         (behind x s i k line held other t (t .fed .ended) (rest (i + 1) (keptLine line held x) (keptCount line held)))
 
 module _ {s : List ℕ} {i : ℕ} {line : List ℕ} {held : ℕ} {line′ : List ℕ} {r : Fed} (k : ℕ)
     (w : TookLine s i line held line′ r) where
   -- What the call leaves.
-  left : took s i line held ≡ record { line = line′; fed = r }
+  left : takeLine s i line held ≡ record { line = line′; fed = r }
   left = ap₂ (λ (l : List ℕ) (f : Fed). record { line = l; fed = f }) (sym (w .leaves)) (sym (w .result))
 
   -- Which of the two it is.

@@ -20,12 +20,12 @@ use Rattle.refusals.specs.Outcomes.{Outcome, accepted, then}
 use Rattle.trees.specs.Trees.{Tree}
 use Rattle.trees.specs.Building.{treeOf}
 use Rattle.trees.specs.Pairs.{caretsOfSides, caretsOf, maxCarets}
-use Rattle.trees.specs.Writing.{tableCarets}
+use Rattle.trees.specs.inside.Writing.{tableCarets}
 use Rattle.trees.proofs.Rows.{tree-same}
 use Rattle.trees.proofs.Needed.{needed-same}
 use Rattle.trees.proofs.Pairs.{carets-limit}
 use Rattle.lengths.specs.Weights.{pairLength, formLength}
-use Rattle.lengths.specs.Contracts.{tableLength}
+use Rattle.lengths.specs.inside.Contracts.{tableLength}
 
 module _ (w : Word) where
   -- The table of a side.

@@ -2,5 +2,6 @@
 pub mod Text
 pub mod Receipts
 pub mod Serving
-pub mod Steps
 pub mod Contracts
+-- what no claim reaches
+pub mod inside

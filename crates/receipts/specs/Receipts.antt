@@ -17,24 +17,25 @@ use Rattle.forest.specs.Judging.{judged}
 use Rattle.receipts.specs.Text.{ascii, decimal, hexOf}
 
 -- One space parts the fields of a line, and byte 0A hex ends it.
-abbrev pub row : List (List ℕ) → List ℕ
-row [] = lineFeed ∷ []
-row (field ∷ []) = field ++ (lineFeed ∷ [])
-row (field ∷ next ∷ fields) = field ++ (32 ∷ row (next ∷ fields))
+abbrev pub joinFields : List (List ℕ) → List ℕ
+joinFields [] = lineFeed ∷ []
+joinFields (field ∷ []) = field ++ (lineFeed ∷ [])
+joinFields (field ∷ next ∷ fields) = field ++ (32 ∷ joinFields (next ∷ fields))
 
 -- The header.
 abbrev pub header : List ℕ
-header = row (ascii "line" ∷ ascii "letters" ∷ ascii "carets" ∷ ascii "length" ∷ ascii "record" ∷ [])
+header = joinFields (ascii "line" ∷ ascii "letters" ∷ ascii "carets" ∷ ascii "length" ∷ ascii "record" ∷ [])
 
 -- Line number, letters, N, length, record.
 abbrev pub formReceipt : (number letters : ℕ) → Form → List ℕ
 formReceipt number letters f =
-    row
+    joinFields
     (decimal number ∷ decimal letters ∷ decimal (caretsOf f) ∷ decimal (formLength f) ∷ hexOf (encode f) ∷ [])
 
 -- Line number, `refused`, number, place.
 abbrev pub refusalReceipt : (number refusal place : ℕ) → List ℕ
-refusalReceipt number refusal place = row (decimal number ∷ ascii "refused" ∷ decimal refusal ∷ decimal place ∷ [])
+refusalReceipt number refusal place =
+    joinFields (decimal number ∷ ascii "refused" ∷ decimal refusal ∷ decimal place ∷ [])
 
 -- The word that a line is, or refusal 1 or 2 of it: tables of as many entries as the word asks for are never too short.
 abbrev pub lineRead : List ℕ → Outcome Word

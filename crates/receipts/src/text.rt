@@ -4,9 +4,9 @@ ghost use mathlib.Core.List.{[], _∷_, _++_};
 ghost use Prim.Native.Nat.{_+_, _*_, _≤_, _<_};
 ghost use lib.ListN.{length};
 ghost use Rattle.io.specs.Digits.{glyph};
-ghost use Rattle.lists.specs.Writes.{Wrote};
+ghost use Rattle.lists.specs.inside.Writes.{Wrote};
 ghost use Rattle.receipts.specs.Text.{decimal, hexOf};
-ghost use Rattle.receipts.specs.Steps.{numberSize};
+ghost use Rattle.receipts.specs.inside.Steps.{numberSize};
 
 // All bytes of a text.
 pub fn put(text: &[u8], out: &mut [u8], at: usize) -> usize

@@ -15,7 +15,7 @@ use Rattle.records.specs.Format.{Power, powers, entries, encode, Within,
 use Rattle.records.specs.Reading.{bPowers, aPowers, exponentAt, decode}
 use Rattle.records.specs.Faults.{Bytes, formRead}
 use Rattle.records.proofs.Framing.{fields, frames→frame, frame-written}
-use Rattle.records.specs.Steps.{Proper}
+use Rattle.records.specs.inside.Steps.{Proper}
 use Rattle.records.proofs.ProperPowers.{total, proper-equal}
 use Rattle.records.proofs.Levels.{upTo-trimmed, exponents-total}
 use Rattle.records.proofs.ReadBack.{sidePowers, form-exponent, powers-exponent, form-proper}

@@ -8,9 +8,9 @@ use native.Mathlib.Omega.{arith}
 use lib.ListN.{getD}
 use Rattle.group.specs.Forms.{Form}
 use Rattle.group.specs.Limits.{limit}
-use Rattle.refusals.specs.Outcomes.{Outcome, accepted, refused, checked}
-use Rattle.records.specs.Reading.{breaks, firstBreak}
-use Rattle.records.specs.Steps.{isBreak, Shown}
+use Rattle.refusals.specs.Outcomes.{Outcome, accepted, refused, dropValue}
+use Rattle.records.specs.Reading.{breaks, findBreak}
+use Rattle.records.specs.inside.Steps.{isBreak, Shown}
 
 -- The tables' test at an index is the form's.
 shown-break : (f : Form) (b a : List ℕ) (i : ℕ) → Shown f b a → i ≤ limit
@@ -26,47 +26,48 @@ shown-break f b a i h le =
 
 -- Some indices, the first of them tested.
 first-next : (f : Form) (i k : ℕ) → 0 < k
-    → firstBreak f i k ≡ cond (breaks f i) (refused 5 i) (firstBreak f (suc i) (k - 1))
-unfolding firstBreak
+    → findBreak f i k ≡ cond (breaks f i) (refused 5 i) (findBreak f (suc i) (k - 1))
+unfolding findBreak
 first-next f i zero h = absurd (omega arith)
 first-next f i (suc k) h =
     let e : k ≡ suc k - 1 = omega arith in
-    ap (λ (j : ℕ). cond (breaks f i) (refused 5 i) (firstBreak f (suc i) j)) e
+    ap (λ (j : ℕ). cond (breaks f i) (refused 5 i) (findBreak f (suc i) j)) e
 
-first-none : (f : Form) (i k : ℕ) → k ≡ 0 → firstBreak f i k ≡ accepted f
-unfolding firstBreak
+first-none : (f : Form) (i k : ℕ) → k ≡ 0 → findBreak f i k ≡ accepted f
+unfolding findBreak
 first-none f i zero e = refl
 first-none f i (suc k) e = absurd (omega arith)
 
 -- Amid the loop: no index below i breaks the clause.
 pub record Unbroken (b a : List ℕ) (i : ℕ) : Type 0 where
-  pub goes-on : (f : Form) → Shown f b a → firstBreak f i (suc limit - i) ≡ firstBreak f 0 (suc limit)
+  pub goes-on : (f : Form) → Shown f b a → findBreak f i (suc limit - i) ≡ findBreak f 0 (suc limit)
 
 module _ {b a : List ℕ} {i : ℕ} (h : Unbroken b a i) (f : Form) (sh : Shown f b a) where
   next : i ≤ limit → (t : Bool)
       → t ≡ isBreak (getD b i 0) (getD a i 0) (getD b (i + 1) 0) (getD a (i + 1) 0)
-      → cond t (refused 5 i) (firstBreak f (suc i) (suc limit - i - 1)) ≡ firstBreak f 0 (suc limit)
+      → cond t (refused 5 i) (findBreak f (suc i) (suc limit - i - 1)) ≡ findBreak f 0 (suc limit)
   next le t e =
       ap
-      (λ (p : Bool). cond p (refused 5 i) (firstBreak f (suc i) (suc limit - i - 1)))
+      (λ (p : Bool). cond p (refused 5 i) (findBreak f (suc i) (suc limit - i - 1)))
       (e ∙ shown-break f b a i sh le)
       ∙ sym (first-next f i (suc limit - i) (omega (arith, le)))
       ∙ h .goes-on f sh
 
   pub break-here : i ≤ limit
       → true ≡ isBreak (getD b i 0) (getD a i 0) (getD b (i + 1) 0) (getD a (i + 1) 0)
-      → refused 5 i ≡ checked (firstBreak f 0 (suc limit))
-  break-here le e = ap (λ (o : Outcome Form). checked o) (next le true e)
+      → refused 5 i ≡ dropValue (findBreak f 0 (suc limit))
+  break-here le e = ap (λ (o : Outcome Form). dropValue o) (next le true e)
 
   pub break-later : i ≤ limit
       → false ≡ isBreak (getD b i 0) (getD a i 0) (getD b (i + 1) 0) (getD a (i + 1) 0)
-      → firstBreak f (i + 1) (suc limit - (i + 1)) ≡ firstBreak f 0 (suc limit)
+      → findBreak f (i + 1) (suc limit - (i + 1)) ≡ findBreak f 0 (suc limit)
   break-later le e =
       let k : suc limit - (i + 1) ≡ suc limit - i - 1 = omega arith in
-      ap (λ (j : ℕ). firstBreak f j (suc limit - (i + 1))) (add-one i)
-      ∙ ap (λ (j : ℕ). firstBreak f (suc i) j) k
+      ap (λ (j : ℕ). findBreak f j (suc limit - (i + 1))) (add-one i)
+      ∙ ap (λ (j : ℕ). findBreak f (suc i) j) k
       ∙ next le false e
 
-  pub break-nowhere : limit < i → accepted 0 ≡ checked (firstBreak f 0 (suc limit))
+  pub break-nowhere : limit < i → accepted 0 ≡ dropValue (findBreak f 0 (suc limit))
   break-nowhere lt =
-      ap (λ (o : Outcome Form). checked o) (sym (first-none f i (suc limit - i) (omega (arith, lt))) ∙ h .goes-on f sh)
+      ap (λ (o : Outcome Form). dropValue o)
+      (sym (first-none f i (suc limit - i) (omega (arith, lt))) ∙ h .goes-on f sh)

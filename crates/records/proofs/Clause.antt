@@ -13,7 +13,7 @@ use borrow.Author.Tests.{ltb-true, eqb-true, lt-ltb, eq-eqb}
 use Rattle.group.specs.Forms.{Side, bSide, aSide, Form, exponent}
 use Rattle.group.specs.Reducing.{Occurs, Reduced, Applies}
 use Rattle.refusals.specs.Outcomes.{accepted, refused}
-use Rattle.records.specs.Reading.{breaks, firstBreak}
+use Rattle.records.specs.Reading.{breaks, findBreak}
 use Rattle.records.proofs.Tests.{both-left, both-right, true-both}
 
 on-sides : (P : Side → Type 0) → P bSide → P aSide → (s : Side) → P s
@@ -65,17 +65,17 @@ reduced-applies f n i p q = occurs (decLt 0 (exponent aSide f (suc i))) (decLt 0
         }))
 
 data Judged (f : Form) (i k : ℕ) : Type 0 where
-  keeps : ((j : ℕ) → i ≤ j → j < i + k → Applies j f → ⊥) → firstBreak f i k ≡ accepted f → Judged f i k
+  keeps : ((j : ℕ) → i ≤ j → j < i + k → Applies j f → ⊥) → findBreak f i k ≡ accepted f → Judged f i k
   fails : (place : ℕ) → i ≤ place → place < i + k → Applies place f
-      → ((j : ℕ) → i ≤ j → j < place → Applies j f → ⊥) → firstBreak f i k ≡ refused 5 place → Judged f i k
+      → ((j : ℕ) → i ≤ j → j < place → Applies j f → ⊥) → findBreak f i k ≡ refused 5 place → Judged f i k
 
 judged : (f : Form) (k i : ℕ) → Judged f i k
-unfolding firstBreak
+unfolding findBreak
 judged f zero i = keeps (λ j p q h. omega arith) refl
 judged f (suc k) i = test (breaks f i) refl (judged f k (suc i))
   where
-    goes : {b : Bool} → breaks f i ≡ b → firstBreak f i (suc k) ≡ cond b (refused 5 i) (firstBreak f (suc i) k)
-    goes q = ap (λ (b : Bool). cond b (refused 5 i) (firstBreak f (suc i) k)) q
+    goes : {b : Bool} → breaks f i ≡ b → findBreak f i (suc k) ≡ cond b (refused 5 i) (findBreak f (suc i) k)
+    goes q = ap (λ (b : Bool). cond b (refused 5 i) (findBreak f (suc i) k)) q
 
     -- An index from i on: i itself, or a later one.
     split : breaks f i ≡ false → (j : ℕ) → i ≤ j → Applies j f → suc i ≤ j
@@ -93,8 +93,8 @@ judged f (suc k) i = test (breaks f i) refl (judged f k (suc i))
         fails place (omega arith) (omega arith) a (λ j x y z. n j (split q j x z) y z) (goes q ∙ w)
 
 pub data Checked (f : Form) (m : ℕ) : Type 0 where
-  whole : ((i : ℕ) → Applies i f → ⊥) → firstBreak f 0 m ≡ accepted f → Checked f m
-  broken : (place : ℕ) → Applies place f → ((i : ℕ) → i < place → Applies i f → ⊥) → firstBreak f 0 m ≡ refused 5 place
+  whole : ((i : ℕ) → Applies i f → ⊥) → findBreak f 0 m ≡ accepted f → Checked f m
+  broken : (place : ℕ) → Applies place f → ((i : ℕ) → i < place → Applies i f → ⊥) → findBreak f 0 m ≡ refused 5 place
       → Checked f m
 
 pub checked : (f : Form) (m : ℕ) → ((i : ℕ) → 0 < exponent bSide f i → i < m) → Checked f m

@@ -13,15 +13,15 @@ use Rattle.lists.proofs.Totals.{same-replicate}
 use Rattle.group.specs.Forms.{Side, bSide, aSide, Form, exponent}
 use Rattle.group.specs.Limits.{limit}
 use Rattle.group.proofs.Reduced.{Canonical}
-use Rattle.refusals.specs.Outcomes.{Outcome, accepted, refused, checked, refusal, verdictOf, refusalIn}
+use Rattle.refusals.specs.Outcomes.{Outcome, accepted, refused, dropValue, refusal, verdictOf, refusalIn}
 use Rattle.refusals.specs.declared.Refusal.{Refusal}
 use Rattle.refusals.specs.declared.Verdict.{Verdict}
 use Rattle.refusals.specs.declared.Verdict.the-variants.{Accepted, Refused}
-use Rattle.refusals.proofs.Outcomes.{checked-accepted, checked-refused}
+use Rattle.refusals.proofs.Outcomes.{drop-accepted, drop-refused}
 use Rattle.records.specs.Format.{Within}
 use Rattle.records.specs.Reading.{decode}
 use Rattle.records.specs.Faults.{Bytes}
-use Rattle.records.specs.Contracts.{decodedIn, tableRead, Decoded}
+use Rattle.records.specs.inside.Contracts.{decodedIn, tableRead, Decoded}
 use Rattle.records.proofs.Accepted.{decode-form}
 
 -- A table of n zeros with an entry for every index up to the limit.
@@ -82,19 +82,19 @@ module _ {n : ℕ} {s z b a : List ℕ} {v : Verdict} (c : Cleared n z) (d : Dec
   whole : decodedIn s (length z) (length z) ≡ decode s
   whole = reader-room s (length z) (omega (arith, c .size, c .room))
 
-  judged : verdictOf v ≡ checked (decode s)
-  judged = d .result ∙ ap checked whole
+  judged : verdictOf v ≡ dropValue (decode s)
+  judged = d .result ∙ ap dropValue whole
 
   -- It refused.
   pub read-refused : {q : Refusal} → v ≡ Refused q → decode s ≡ refusal (refusalIn v)
   read-refused {q} e =
-      checked-refused (decode s) (sym (ap (λ (x : Verdict). verdictOf x) e) ∙ judged)
+      drop-refused (decode s) (sym (ap (λ (x : Verdict). verdictOf x) e) ∙ judged)
       ∙ sym (ap (λ (x : Verdict). refusal (refusalIn x)) e)
 
   -- It accepted.
   pub read-accepted : v ≡ Accepted → (f : Form) × Read s z b a f
   read-accepted e =
-      let x = checked-accepted (decode s) (sym (ap verdictOf e) ∙ judged) in
+      let x = drop-accepted (decode s) (sym (ap verdictOf e) ∙ judged) in
       let both = decode-form s (x .0) (x .1) in (
         x .0,
         record {

@@ -15,12 +15,12 @@ use Rattle.refusals.specs.declared.Verdict.{Verdict}
 use Rattle.refusals.specs.declared.Verdict.the-variants.{Accepted, Refused}
 use Rattle.refusals.specs.declared.Refusal.{Refusal}
 use Rattle.refusals.specs.declared.Refusal.the-variants.{ShortTable}
-use Rattle.refusals.specs.Outcomes.{Outcome, accepted, refused, then, checked, verdictOf}
+use Rattle.refusals.specs.Outcomes.{Outcome, accepted, refused, then, dropValue, verdictOf}
 use Rattle.records.specs.Reading.{bPowers, aPowers, exponentAt, decode}
 use Rattle.records.specs.Checking.{Checked}
-use Rattle.records.specs.Contracts.{decodedIn, tableRead, Decoded}
+use Rattle.records.specs.inside.Contracts.{decodedIn, tableRead, Decoded}
 use Rattle.records.specs.Faults.{Bytes, formRead}
-use Rattle.records.specs.Steps.{frameOf, Ordered}
+use Rattle.records.specs.inside.Steps.{frameOf, Ordered}
 use Rattle.records.specs.declared.reading.Frame.the-variants.{Exact, Broken}
 use Rattle.refusals.proofs.Outcomes.{accepted-refused}
 use Rattle.records.proofs.ReadBack.{sidePowers}
@@ -32,7 +32,7 @@ decoded-kept : (s b a : List ℕ) (r : Verdict) (n p : ℕ) → Bytes s → deco
     → verdictOf r ≡ refused n p → Decoded s b a b a r
 decoded-kept s b a r n p bytes e v = record {
   are-bytes = bytes;
-  result = v ∙ sym (ap (λ (o : Outcome Form). checked o) e);
+  result = v ∙ sym (ap (λ (o : Outcome Form). dropValue o) e);
   b-table = sym (ap (λ (o : Outcome Form). tableRead bSide o b) e);
   a-table = sym (ap (λ (o : Outcome Form). tableRead aSide o a) e);
 }
@@ -46,7 +46,7 @@ pub decoded-refused : (s b a : List ℕ) (v : Verdict) (r : Refusal) → Checked
     → Decoded s b a b a v
 decoded-refused s b a v r h e = go (decode s) refl (sym (ap verdictOf e) ∙ h .result)
   where
-    go : (o : Outcome Form) → decode s ≡ o → verdictOf (Refused r) ≡ checked o → Decoded s b a b a v
+    go : (o : Outcome Form) → decode s ≡ o → verdictOf (Refused r) ≡ dropValue o → Decoded s b a b a v
     go (accepted f) q k = absurd (accepted-refused (sym k))
     go (refused n p) q k =
         decoded-kept s b a v n p (h .are-bytes) (ap (λ (o : Outcome Form). then o (fits (length b) (length a))) q)
@@ -63,7 +63,7 @@ check-accepts s v h e = go (reads s)
   where
     never : (n p : ℕ) → decode s ≡ refused n p → ⊥
     never n p q =
-        accepted-refused (sym (ap verdictOf e) ∙ h .result ∙ ap (λ (o : Outcome Form). checked o) q)
+        accepted-refused (sym (ap verdictOf e) ∙ h .result ∙ ap (λ (o : Outcome Form). dropValue o) q)
 
     go : Reads s → Accepts s
     go (unframed f q) = absurd (never 3 0 q)
@@ -102,7 +102,7 @@ module _ (s b a : List ℕ) (h : Accepts s) where
       in-tables ∙ simp (le-ltb (length b) (suc limit) lb, le-ltb (length a) (suc limit) la) in
       record {
         are-bytes = h .are-bytes;
-        result = sym (ap (λ (o : Outcome Form). checked o) e);
+        result = sym (ap (λ (o : Outcome Form). dropValue o) e);
         b-table = p ∙ same-table bSide b ∙ sym (ap (λ (o : Outcome Form). tableRead bSide o b) e);
         a-table = q ∙ same-table aSide a ∙ sym (ap (λ (o : Outcome Form). tableRead aSide o a) e);
       }

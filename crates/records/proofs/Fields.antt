@@ -6,10 +6,10 @@ use lib.ListN.{length}
 use Rattle.lists.specs.Tables.{filled}
 use native.Mathlib.Omega.{arith}
 use Rattle.group.specs.Limits.{limit}
-use Rattle.refusals.specs.Outcomes.{Outcome, accepted, refused, then, checked}
+use Rattle.refusals.specs.Outcomes.{Outcome, accepted, refused, then, dropValue}
 use Rattle.records.specs.Format.{Power, baseSize}
 use Rattle.records.specs.Reading.{entriesAt, bPowers, aPowers, aStart, exponentAt, scan}
-use Rattle.records.specs.Steps.{Proper, Ordered, scanBoth, frameOf}
+use Rattle.records.specs.inside.Steps.{Proper, Ordered, scanBoth, frameOf}
 use Rattle.records.specs.declared.reading.Frame.the-variants.{Exact}
 use Rattle.refusals.proofs.Outcomes.{accepted-refused}
 use Rattle.records.proofs.Scans.{passed→proper}
@@ -23,32 +23,34 @@ module _ {s : List ℕ} {b a : ℕ} (f : Opened s b a) where
   second-powers = ap₂ (λ (n m : ℕ). entriesAt s (baseSize + n) (m / 4)) (f .first) (f .second)
 
   -- A fault in the first field is the record's.
-  pub fields-fault : (at : ℕ) → refused 4 at ≡ scan 3 0 0 (entriesAt s 3 (b / 4)) → refused 4 at ≡ checked (scanBoth s)
+  pub fields-fault : (at : ℕ) → refused 4 at ≡ scan 3 0 0 (entriesAt s 3 (b / 4))
+      → refused 4 at ≡ dropValue (scanBoth s)
   fields-fault at e =
       ap
-      (λ (o : Outcome ℕ). checked (then o (λ sum. scan (aStart s) 0 sum (aPowers s))))
+      (λ (o : Outcome ℕ). dropValue (then o (λ sum. scan (aStart s) 0 sum (aPowers s))))
       (e ∙ ap (scan 3 0 0) first-powers)
 
   -- Where the first field is right, the record is as the second.
   pub fields-second : (sum : ℕ) → accepted sum ≡ scan 3 0 0 (entriesAt s 3 (b / 4))
-      → checked (scan (baseSize + b) 0 sum (entriesAt s (baseSize + b) (a / 4))) ≡ checked (scanBoth s)
+      → dropValue (scan (baseSize + b) 0 sum (entriesAt s (baseSize + b) (a / 4))) ≡ dropValue (scanBoth s)
   fields-second sum e =
-      ap₂ (λ (n : ℕ) (ps : List Power). checked (scan (baseSize + n) 0 sum ps)) (f .first) second-powers
+      ap₂ (λ (n : ℕ) (ps : List Power). dropValue (scan (baseSize + n) 0 sum ps)) (f .first) second-powers
       ∙ ap
-      (λ (o : Outcome ℕ). checked (then o (λ n. scan (aStart s) 0 n (aPowers s))))
+      (λ (o : Outcome ℕ). dropValue (then o (λ n. scan (aStart s) 0 n (aPowers s))))
       (e ∙ ap (scan 3 0 0) first-powers)
 
 -- A framed record whose entries pass has proper entries.
-pub fields-ordered : (s : List ℕ) (b a : ℕ) → frameOf s ≡ Exact b a → accepted 0 ≡ checked (scanBoth s) → Ordered s b a
+pub fields-ordered : (s : List ℕ) (b a : ℕ) → frameOf s ≡ Exact b a → accepted 0 ≡ dropValue (scanBoth s)
+    → Ordered s b a
 fields-ordered s b a e h = go (scan 3 0 0 (bPowers s)) refl h
   where
-    next : (sum : ℕ) → sum ≤ limit → (o : Outcome ℕ) → scan (aStart s) 0 sum (aPowers s) ≡ o → accepted 0 ≡ checked o
+    next : (sum : ℕ) → sum ≤ limit → (o : Outcome ℕ) → scan (aStart s) 0 sum (aPowers s) ≡ o → accepted 0 ≡ dropValue o
         → Proper 0 (aPowers s)
     next sum le (accepted n) q k = passed→proper (aPowers s) (aStart s) 0 sum n le q .0
     next sum le (refused n p) q k = absurd (accepted-refused k)
 
     go : (o : Outcome ℕ) → scan 3 0 0 (bPowers s) ≡ o
-        → accepted 0 ≡ checked (then o (λ sum. scan (aStart s) 0 sum (aPowers s))) → Ordered s b a
+        → accepted 0 ≡ dropValue (then o (λ sum. scan (aStart s) 0 sum (aPowers s))) → Ordered s b a
     go (accepted sum) q k =
         let first = passed→proper (bPowers s) 3 0 0 sum (omega arith) q in
         record {

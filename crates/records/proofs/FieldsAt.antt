@@ -9,7 +9,7 @@ use lib.Dec.{eqb, ltb}
 use borrow.Author.Tests.{ltb-false, eqb-true, lt-ltb, le-ltb, eq-eqb, ne-eqb}
 use Rattle.records.specs.declared.field_reader.Field.the-variants.{Body, Missing}
 use Rattle.records.specs.Reading.{twoAt}
-use Rattle.records.specs.FieldReading.{headSize, fieldAt}
+use Rattle.records.specs.inside.FieldReading.{headSize, fieldAt}
 
 pub field-no-head : (s : List ℕ) (at tag : ℕ) → length s < at + headSize → Missing ≡ fieldAt s at tag
 field-no-head s at tag h = simp (lt-ltb (length s) (at + headSize) h)

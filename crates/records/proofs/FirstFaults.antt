@@ -14,11 +14,11 @@ use Rattle.group.specs.Forms.{Side}
 use Rattle.group.specs.Limits.{limit}
 use Rattle.refusals.specs.Outcomes.{refused}
 use Rattle.records.specs.Format.{Power, power}
-use Rattle.records.specs.Reading.{faulty, scan}
+use Rattle.records.specs.Reading.{isFaulty, scan}
 use Rattle.records.specs.Faults.{Entry, entriesFrom, runningSum, Sound, FirstFault}
 use Rattle.records.specs.Faults.{Faulty, noExponent, highIndex, notRising, highSum}
 use Rattle.records.proofs.Splits.{split-empty, last-same, Split, append-split}
-use Rattle.records.specs.Steps.{Proper}
+use Rattle.records.specs.inside.Steps.{Proper}
 use Rattle.records.proofs.ProperPowers.{total}
 use Rattle.refusals.proofs.Outcomes.{accepted-refused, refused-place}
 use Rattle.records.proofs.Scans.{Fit, passed→fit}
@@ -67,7 +67,7 @@ module _ {before : List Entry} {t : Side} {low sum : ℕ} (k : Tracks before t l
   fit-right fit (notRising u d p q h) = omega (arith, fit .rises, k .last u d p q)
   fit-right fit (highSum h) = omega (arith, fit .low-sum, k .sums)
 
-  faulty-wrong : faulty low sum i e ≡ true → Faulty before this
+  faulty-wrong : isFaulty low sum i e ≡ true → Faulty before this
   faulty-wrong h = first (eqb e 0) refl h
     where
       third : (b : Bool) → ltb i low ≡ b → cond b true (ltb limit (sum + e)) ≡ true → Faulty before this
@@ -106,10 +106,10 @@ pub scan-fault : (ps : List Power) {t : Side} {low sum : ℕ} (at place : ℕ) (
     → scan at low sum ps ≡ refused 4 place → FirstFault whole place
 scan-fault [] at place before tail whole k s w h = absurd (accepted-refused h)
 scan-fault (power i e ∷ ps) {t} {low} {sum} at place before tail whole k s w h =
-    test (faulty low sum i e) refl h
+    test (isFaulty low sum i e) refl h
     (scan-fault ps (at + 4) place (before ++ (this k at i e ∷ [])) tail whole (tracks-more k at i e))
   where
-    test : (b : Bool) → faulty low sum i e ≡ b
+    test : (b : Bool) → isFaulty low sum i e ≡ b
         → cond b (refused 4 at) (scan (at + 4) (suc i) (sum + e) ps) ≡ refused 4 place
         → (Sound (before ++ (this k at i e ∷ []))
         → whole ≡ before ++ (this k at i e ∷ []) ++ (entriesFrom t (at + 4) ps ++ tail)

@@ -12,8 +12,8 @@ use Rattle.records.specs.declared.field_reader.Field.{Field}
 use Rattle.records.specs.declared.field_reader.Field.the-variants.{Body, Missing}
 use Rattle.records.specs.Format.{bTag, aTag}
 use Rattle.records.specs.Reading.{twoAt, bLength, aLength, both}
-use Rattle.records.specs.Steps.{frameOf}
-use Rattle.records.specs.FieldReading.{headSize, fieldAt, endOf, fieldEnd, framedBy}
+use Rattle.records.specs.inside.Steps.{frameOf}
+use Rattle.records.specs.inside.FieldReading.{headSize, fieldAt, endOf, fieldEnd, framedBy}
 use Rattle.records.proofs.Framing.{Frame}
 use Rattle.records.proofs.Frames.{frame-exact, frame-broken}
 use Rattle.records.proofs.FieldsAt.{Found, field-found, field-opens}

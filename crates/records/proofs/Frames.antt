@@ -8,7 +8,7 @@ use lib.ListN.{length}
 use Rattle.records.specs.declared.reading.Frame.the-variants.{Exact, Broken}
 use Rattle.records.specs.Format.{baseSize}
 use Rattle.records.specs.Reading.{bLength, aLength, frames}
-use Rattle.records.specs.Steps.{frameOf}
+use Rattle.records.specs.inside.Steps.{frameOf}
 use Rattle.records.proofs.Framing.{Frame, frames→frame, frame→frames}
 
 pub frame-exact : (s : List ℕ) → Frame s → Exact (bLength s) (aLength s) ≡ frameOf s

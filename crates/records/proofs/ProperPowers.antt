@@ -11,7 +11,7 @@ use borrow.Author.Tests.{eq-eqb, ne-eqb}
 use Rattle.group.specs.Limits.{limit}
 use Rattle.records.specs.Format.{Power, power, putPower, powers}
 use Rattle.records.specs.Reading.{exponentAt}
-use Rattle.records.specs.Steps.{Proper}
+use Rattle.records.specs.inside.Steps.{Proper}
 
 abbrev pub total : List Power → ℕ
 total [] = 0

@@ -17,7 +17,7 @@ use Rattle.records.specs.Reading.{exponentAt, formOfPowers}
 use Rattle.records.proofs.Lengths.{entries-length}
 use Rattle.records.proofs.WrittenEntries.{entries-read}
 use Rattle.records.proofs.Framing.{frame→frames, fields, fields-b, fields-a, fields-start, fields-frame}
-use Rattle.records.specs.Steps.{Proper}
+use Rattle.records.specs.inside.Steps.{Proper}
 use Rattle.records.proofs.ProperPowers.{at-above, powers-at, powers-proper}
 use Rattle.records.proofs.Levels.{upTo-below, upTo-behind, upTo-trimmed}
 

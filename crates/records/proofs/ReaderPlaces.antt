@@ -8,8 +8,8 @@ use Rattle.records.specs.declared.reading.Frame.{Frame}
 use Rattle.records.specs.declared.field_reader.FieldReader.{FieldReader}
 use Rattle.records.specs.declared.field_reader.Field.{Field}
 use Rattle.records.specs.Format.{bTag, aTag}
-use Rattle.records.specs.Steps.{frameOf}
-use Rattle.records.specs.FieldReading.{fieldAt, fieldEnd, framedBy}
+use Rattle.records.specs.inside.Steps.{frameOf}
+use Rattle.records.specs.inside.FieldReading.{fieldAt, fieldEnd, framedBy}
 use Rattle.records.proofs.FramedFields.{framed-fields}
 
 -- A reader stands at a place of a slice.

@@ -14,7 +14,7 @@ use Rattle.refusals.specs.Outcomes.{Outcome, accepted, refused, then}
 use Rattle.records.specs.Reading.{aStart, frames, bPowers, aPowers, scan, exponentAt, reducedForm}
 use Rattle.records.specs.Reading.{readEntries, decode}
 use Rattle.records.specs.Faults.{recordEntries, FirstFault, formRead, FirstBreak}
-use Rattle.records.specs.Steps.{Proper}
+use Rattle.records.specs.inside.Steps.{Proper}
 use Rattle.records.proofs.ProperPowers.{total}
 use Rattle.records.proofs.Levels.{upTo-index}
 use Rattle.records.proofs.ReadBack.{sidePowers}

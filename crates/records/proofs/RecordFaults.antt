@@ -12,7 +12,7 @@ use Rattle.records.specs.Format.{Power, power}
 use Rattle.records.specs.Reading.{aStart, bPowers, aPowers, scan}
 use Rattle.records.specs.Faults.{Entry, entriesFrom, recordEntries, runningSum, Sound, FirstFault}
 use Rattle.records.proofs.Splits.{split-empty, Split, append-split}
-use Rattle.records.specs.Steps.{Proper}
+use Rattle.records.specs.inside.Steps.{Proper}
 use Rattle.records.proofs.ProperPowers.{total}
 use Rattle.records.proofs.FirstFaults.{Tracks, proper-sound, scan-fault}
 

@@ -8,7 +8,7 @@ use native.Mathlib.Omega.{arith}
 use lib.ListN.{length}
 use Rattle.group.specs.Limits.{limit}
 use Rattle.refusals.specs.Outcomes.{Outcome, accepted, refused}
-use Rattle.records.specs.Reading.{twoAt, entriesAt, faulty, scan}
+use Rattle.records.specs.Reading.{twoAt, entriesAt, isFaulty, scan}
 use Rattle.records.proofs.WrittenEntries.{entries-next}
 use Rattle.records.proofs.Scans.{passed→fit}
 
@@ -25,18 +25,18 @@ module _ {s : List ℕ} {start sum count at low total left : ℕ} (h : Scanning 
   later i e = scan (at + 4) (suc i) (total + e) (entriesAt s (at + 4) (left - 1))
 
   next : (i e : ℕ) → i ≡ twoAt s at → e ≡ twoAt s (at + 2) → 0 < left
-      → cond (faulty low total i e) (refused 4 at) (later i e) ≡ scan start 0 sum (entriesAt s start count)
+      → cond (isFaulty low total i e) (refused 4 at) (later i e) ≡ scan start 0 sum (entriesAt s start count)
   next i e p q lt =
-      ap₂ (λ (j d : ℕ). cond (faulty low total j d) (refused 4 at) (later j d)) p q
+      ap₂ (λ (j d : ℕ). cond (isFaulty low total j d) (refused 4 at) (later j d)) p q
       ∙ sym (ap (scan at low total) (entries-next s at left lt))
       ∙ h .goes-on
 
-  pub scanning-fault : (i e : ℕ) → i ≡ twoAt s at → e ≡ twoAt s (at + 2) → 0 < left → faulty low total i e ≡ true
+  pub scanning-fault : (i e : ℕ) → i ≡ twoAt s at → e ≡ twoAt s (at + 2) → 0 < left → isFaulty low total i e ≡ true
       → refused 4 at ≡ scan start 0 sum (entriesAt s start count)
   scanning-fault i e p q lt t =
       sym (ap (λ (b : Bool). cond b (refused 4 at) (later i e)) t) ∙ next i e p q lt
 
-  pub scanning-more : (i e : ℕ) → i ≡ twoAt s at → e ≡ twoAt s (at + 2) → 0 < left → faulty low total i e ≡ false
+  pub scanning-more : (i e : ℕ) → i ≡ twoAt s at → e ≡ twoAt s (at + 2) → 0 < left → isFaulty low total i e ≡ false
       → Scanning s start sum count (at + 4) (i + 1) (total + e) (left - 1)
   scanning-more i e p q lt t = record {
     inside = omega (arith, h .inside);

@@ -11,10 +11,10 @@ use borrow.Author.Tests.{ltb-false, eqb-false, le-ltb, ne-eqb}
 use Rattle.group.specs.Limits.{limit}
 use Rattle.refusals.specs.Outcomes.{accepted, refused}
 use Rattle.records.specs.Format.{Power, power}
-use Rattle.records.specs.Reading.{faulty, scan}
+use Rattle.records.specs.Reading.{isFaulty, scan}
 use Rattle.refusals.proofs.Outcomes.{accepted-same, accepted-refused}
 use Rattle.records.proofs.Tests.{neither-left, neither-right, fails-neither}
-use Rattle.records.specs.Steps.{Proper}
+use Rattle.records.specs.inside.Steps.{Proper}
 use Rattle.records.proofs.ProperPowers.{total}
 
 pub record Fit (low sum i e : ℕ) : Type 0 where
@@ -23,7 +23,7 @@ pub record Fit (low sum i e : ℕ) : Type 0 where
   pub rises : low ≤ i
   pub low-sum : sum + e ≤ limit
 
-pub passed→fit : (low sum i e : ℕ) → faulty low sum i e ≡ false → Fit low sum i e
+pub passed→fit : (low sum i e : ℕ) → isFaulty low sum i e ≡ false → Fit low sum i e
 passed→fit low sum i e h =
     let p = neither-right (eqb e 0) _ h in
     let q = neither-right (ltb limit i) _ p in
@@ -35,7 +35,7 @@ passed→fit low sum i e h =
       low-sum = ltb-false limit (sum + e) (neither-right (ltb i low) _ q);
     }
 
-fit→passed : (low sum i e : ℕ) → Fit low sum i e → faulty low sum i e ≡ false
+fit→passed : (low sum i e : ℕ) → Fit low sum i e → isFaulty low sum i e ≡ false
 fit→passed low sum i e h =
     fails-neither (eqb e 0) _ (ne-eqb e 0 (omega (arith, h .some-exponent)))
     (fails-neither (ltb limit i) _ (le-ltb limit i (h .low-index))
@@ -51,20 +51,20 @@ pub data Scanned (at low sum : ℕ) (ps : List Power) : Type 0 where
 pub scanned : (ps : List Power) (at low sum : ℕ) → sum ≤ limit → Scanned at low sum ps
 scanned [] at low sum h =
     let same : sum ≡ sum + 0 = omega arith in passes tt (omega arith) (ap accepted same)
-scanned (power i e ∷ ps) at low sum h = test (faulty low sum i e) refl (scanned ps (at + 4) (suc i) (sum + e))
+scanned (power i e ∷ ps) at low sum h = test (isFaulty low sum i e) refl (scanned ps (at + 4) (suc i) (sum + e))
   where
-    goes : {b : Bool} → faulty low sum i e ≡ b
+    goes : {b : Bool} → isFaulty low sum i e ≡ b
         → scan at low sum (power i e ∷ ps) ≡ cond b (refused 4 at) (scan (at + 4) (suc i) (sum + e) ps)
     goes q = ap (λ (b : Bool). cond b (refused 4 at) (scan (at + 4) (suc i) (sum + e) ps)) q
 
-    more : faulty low sum i e ≡ false → Fit low sum i e → Scanned (at + 4) (suc i) (sum + e) ps
+    more : isFaulty low sum i e ≡ false → Fit low sum i e → Scanned (at + 4) (suc i) (sum + e) ps
         → Scanned at low sum (power i e ∷ ps)
     more q fit (passes r k w) =
         let same : sum + e + total ps ≡ sum + (e + total ps) = omega arith in
         passes (fit .rises, fit .low-index, fit .some-exponent, r) (omega arith) (goes q ∙ w ∙ ap accepted same)
     more q fit (stops place n w) = stops place (λ r k. n (r .3) (omega arith)) (goes q ∙ w)
 
-    test : (b : Bool) → faulty low sum i e ≡ b → (sum + e ≤ limit → Scanned (at + 4) (suc i) (sum + e) ps)
+    test : (b : Bool) → isFaulty low sum i e ≡ b → (sum + e ≤ limit → Scanned (at + 4) (suc i) (sum + e) ps)
         → Scanned at low sum (power i e ∷ ps)
     test true q rest =
         stops at

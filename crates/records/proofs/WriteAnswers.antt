@@ -5,16 +5,16 @@ use Prim.Native.Nat.{ℕ, suc, _<_, _≤_}
 use native.Mathlib.Omega.{arith}
 use lib.ListN.{length}
 use borrow.Author.Tests.{lt-ltb, le-ltb}
-use Rattle.lists.specs.Writes.{Wrote}
+use Rattle.lists.specs.inside.Writes.{Wrote}
 use Rattle.group.specs.Limits.{limit}
 use Rattle.refusals.specs.Outcomes.{accepted, refused}
 use Rattle.refusals.specs.declared.Refusal.the-variants.{ShortBuffer}
 use Rattle.records.specs.declared.Encoding.{Encoding}
 use Rattle.records.specs.declared.Encoding.the-variants.{Bytes, Refused, Unfit}
 use Rattle.records.specs.Format.{recordOf}
-use Rattle.records.specs.Contracts.{encodingOf, encoded, Encoded}
+use Rattle.records.specs.inside.Contracts.{encodingOf, encodeTables, Encoded}
 
-refuses : {b a s : List ℕ} {number place : ℕ} {r : Encoding} → encoded b a (length s) ≡ refused number place
+refuses : {b a s : List ℕ} {number place : ℕ} {r : Encoding} → encodeTables b a (length s) ≡ refused number place
     → encodingOf r ≡ refused number place → Encoded b a s s r
 refuses e h = record { result = rw e h; bytes = rw e refl }
 
@@ -32,6 +32,7 @@ module _ {b a s : List ℕ} (hb : length b ≤ suc limit) (ha : length a ≤ suc
   pub all-written : {t : List ℕ} {n : ℕ} → length (recordOf b a) ≤ length s → Wrote (recordOf b a) s 0 t n
       → Encoded b a s t (Bytes n)
   all-written {t} {n} h w =
-      let e : encoded b a (length s) ≡ accepted (recordOf b a) = simp (le-ltb _ _ hb, le-ltb _ _ ha, le-ltb _ _ h) in
+      let e : encodeTables b a (length s) ≡ accepted (recordOf b a) =
+      simp (le-ltb _ _ hb, le-ltb _ _ ha, le-ltb _ _ h) in
       let long : n ≡ length (recordOf b a) = omega (arith, w .ends) in
       record { result = rw e (ap accepted long); bytes = rw e (w .holds) }

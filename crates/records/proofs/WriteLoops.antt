@@ -4,7 +4,7 @@ use mathlib.Core.List.{List, []}
 use Prim.Native.Nat.{ℕ, _+_, _<_, _≤_}
 use native.Mathlib.Omega.{arith}
 use lib.ListN.{length, getD, length-append}
-use Rattle.lists.specs.Writes.{Wrote, Writing}
+use Rattle.lists.specs.inside.Writes.{Wrote, Writing}
 use Rattle.lists.proofs.Writes.{write-start, write-more, writing-same, write-done, writing-length}
 use Rattle.records.specs.Format.{putPower, powers, entries}
 use Rattle.records.proofs.Powers.{powersFrom, powers-none, put-few, count-next, entries-next}

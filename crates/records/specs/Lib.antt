@@ -1,9 +1,7 @@
--- The record: its format, its reading, the paper's sentences on it, and the contracts of this crate's calls.
+-- The record: its format, its reading, and the paper's sentences on it.
 pub mod Format
-pub mod Fields
 pub mod Reading
 pub mod Faults
-pub mod Steps
-pub mod FieldReading
 pub mod Checking
-pub mod Contracts
+-- what no claim reaches
+pub mod inside

@@ -1,6 +1,6 @@
 -- The reading of a record: its form, or refusal 3, 4 or 5 with the place (01, 'The record', 'Who caused the refusal').
 --     frames s        the two fields frame the bytes exactly     scan     the entries of a field, in order
---     firstBreak      the reduced form's clause                  decode   the whole
+--     findBreak       the reduced form's clause                  decode   the whole
 -- This is how a record is read; that it is the paper's sentences is claimed apart from this. Assumes nothing.
 use mathlib.Core.Bool.{Bool, true, false, cond}
 use mathlib.Core.List.{List, [], _∷_}
@@ -55,14 +55,14 @@ aPowers s = entriesAt s (aStart s) (aLength s / 4)
 
 -- What is wrong with an entry: exponent 0, an index above the limit, an index below `low`, which is one above the index
 -- before it in its field, or an exponent that takes the sum of both fields above the limit.
-abbrev pub faulty : (low sum index exponent : ℕ) → Bool
-faulty low sum i e =
+abbrev pub isFaulty : (low sum index exponent : ℕ) → Bool
+isFaulty low sum i e =
     cond (eqb e 0) true (cond (ltb limit i) true (cond (ltb i low) true (ltb limit (sum + e))))
 
 -- The sum of the exponents, or refusal 4 at the first entry that is wrong; `at` is the offset of the first entry.
 abbrev pub scan : (at low sum : ℕ) → List Power → Outcome ℕ
 scan at low sum [] = accepted sum
-scan at low sum (power i e ∷ ps) = cond (faulty low sum i e) (refused 4 at) (scan (at + 4) (suc i) (sum + e) ps)
+scan at low sum (power i e ∷ ps) = cond (isFaulty low sum i e) (refused 4 at) (scan (at + 4) (suc i) (sum + e) ps)
 
 -- The exponent of an index among powers.
 abbrev pub exponentAt : List Power → ℕ → ℕ
@@ -93,13 +93,13 @@ breaks f i =
     (both (eqb (exponent bSide f (suc i)) 0) (eqb (exponent aSide f (suc i)) 0)))
 
 -- The form, or refusal 5 at the first of k indices from i on that breaks the clause.
-unfoldable pub firstBreak : Form → (i k : ℕ) → Outcome Form
-firstBreak f i zero = accepted f
-firstBreak f i (suc k) = cond (breaks f i) (refused 5 i) (firstBreak f (suc i) k)
+unfoldable pub findBreak : Form → (i k : ℕ) → Outcome Form
+findBreak f i zero = accepted f
+findBreak f i (suc k) = cond (breaks f i) (refused 5 i) (findBreak f (suc i) k)
 
 -- The form of bytes whose fields frame them and whose entries are right, or refusal 5.
 abbrev pub reducedForm : List ℕ → Outcome Form
-reducedForm s = firstBreak (formOfPowers (bPowers s) (aPowers s)) 0 (suc limit)
+reducedForm s = findBreak (formOfPowers (bPowers s) (aPowers s)) 0 (suc limit)
 
 -- The entries of both fields in order, with one sum; then the clause.
 abbrev pub readEntries : List ℕ → Outcome Form

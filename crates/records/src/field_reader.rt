@@ -1,7 +1,7 @@
 // The fields of a record, read one behind another (01, 'The record').
 ghost use mathlib.Core.Path.{_≡_};
-ghost use Rattle.records.specs.FieldReading.{fieldAt, fieldEnd, framedBy};
-ghost use Rattle.records.specs.Steps.{frameOf};
+ghost use Rattle.records.specs.inside.FieldReading.{fieldAt, fieldEnd, framedBy};
+ghost use Rattle.records.specs.inside.Steps.{frameOf};
 use super::A_TAG;
 use super::B_TAG;
 use super::reading;

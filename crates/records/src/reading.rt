@@ -4,11 +4,11 @@ ghost use Prim.Native.Nat.{suc, _+_, _*_, _/_, _≤_, _<_};
 ghost use lib.ListN.{length};
 ghost use Rattle.lists.specs.Tables.{filled};
 ghost use Rattle.group.specs.Limits.{limit};
-ghost use Rattle.refusals.specs.Outcomes.{verdictOf, checked};
+ghost use Rattle.refusals.specs.Outcomes.{verdictOf, dropValue};
 ghost use Rattle.records.specs.Reading.{twoAt, entriesAt, exponentAt};
-ghost use Rattle.records.specs.Reading.{faulty as isFaulty, scan as scanned, reducedForm};
-ghost use Rattle.records.specs.Steps.{frameOf, scanOf, scanBoth, isBreak, Proper, Ordered, placed};
-ghost use Rattle.records.specs.Steps.{BreakFound, FieldsFilled};
+ghost use Rattle.records.specs.Reading.{isFaulty, scan as scanned, reducedForm};
+ghost use Rattle.records.specs.inside.Steps.{frameOf, scanOf, scanBoth, isBreak, Proper, Ordered, placePowers};
+ghost use Rattle.records.specs.inside.Steps.{BreakFound, FieldsFilled};
 use super::BASE_SIZE;
 use refusals::GeneratorIndex;
 use refusals::LIMIT;
@@ -79,7 +79,7 @@ fn scan_field(s: &[u8], start: usize, count: usize, sum: usize) -> Scan
 // The entries of both fields, with one sum over them.
 pub fn check_entries(s: &[u8], b_length: usize, a_length: usize) -> Verdict
     requires { ⌜ frameOf (now s) ≡ Frame.Exact «b_length» «a_length» ⌝ }
-    ensures { λ r. ⌜ verdictOf r ≡ checked (scanBoth (now (s .entry))) ⌝ }
+    ensures { λ r. ⌜ verdictOf r ≡ dropValue (scanBoth (now (s .entry))) ⌝ }
 {
     let first = scan_field(s, 3, b_length / 4, 0);
     match first {
@@ -91,7 +91,7 @@ pub fn check_entries(s: &[u8], b_length: usize, a_length: usize) -> Verdict
 // The entries of the second field, after the sum of the first.
 fn check_second(s: &[u8], start: usize, count: usize, sum: usize) -> Verdict
     requires { ⌜ (start + 4 * count ≤ length (now s)) × (sum ≤ limit) ⌝ }
-    ensures { λ r. ⌜ verdictOf r ≡ checked (scanned start 0 sum (entriesAt (now (s .entry)) start count)) ⌝ }
+    ensures { λ r. ⌜ verdictOf r ≡ dropValue (scanned start 0 sum (entriesAt (now (s .entry)) start count)) ⌝ }
 {
     let second = scan_field(s, start, count, sum);
     match second {
@@ -117,7 +117,7 @@ fn place_powers(s: &[u8], start: usize, count: usize, table: &mut [u16])
     requires { ⌜ start + 4 * count ≤ length (now s) ⌝ }
     requires { ⌜ limit < length (now table) ⌝ }
     requires { ⌜ Proper 0 (entriesAt (now s) start count) ⌝ }
-    ensures { λ _. ⌜ now (table .exit) ≡ placed (entriesAt (now (s .entry)) start count) (now (table .entry)) ⌝ }
+    ensures { λ _. ⌜ now (table .exit) ≡ placePowers (entriesAt (now (s .entry)) start count) (now (table .entry)) ⌝ }
 {
     let mut at = start;
     let mut left = count;
@@ -193,7 +193,7 @@ pub fn fill_fields(
 // Whether the form of a record whose entries are right is reduced.
 pub fn check_reduced(s: &[u8], b_length: usize, a_length: usize) -> Verdict
     requires { ⌜ Ordered (now s) «b_length» «a_length» ⌝ }
-    ensures { λ r. ⌜ verdictOf r ≡ checked (reducedForm (now (s .entry))) ⌝ }
+    ensures { λ r. ⌜ verdictOf r ≡ dropValue (reducedForm (now (s .entry))) ⌝ }
 {
     let mut b = [0u16; LIMIT + 2];
     let mut a = [0u16; LIMIT + 2];

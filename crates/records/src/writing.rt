@@ -5,9 +5,9 @@ ghost use mathlib.Core.List.{[]};
 ghost use Prim.Native.Nat.{suc, _+_, _<_, _≤_};
 ghost use lib.ListN.{length};
 ghost use Rattle.group.specs.Limits.{limit};
-ghost use Rattle.lists.specs.Writes.{Wrote};
+ghost use Rattle.lists.specs.inside.Writes.{Wrote};
 ghost use Rattle.records.specs.Format.{powers, putPower, twoBytes, entries, field, recordOf, baseSize};
-ghost use Rattle.records.specs.Fields.{body, Counted};
+ghost use Rattle.records.specs.inside.Fields.{encodeBody, Counted};
 use super::A_TAG;
 use super::B_TAG;
 
@@ -56,8 +56,8 @@ pub fn count_powers(table: &[u16]) -> usize
 // The entries of a table.
 fn put_entries(table: &[u16], out: &mut [u8], at: usize) -> usize
     requires { ⌜ length (now table) ≤ suc limit ⌝ }
-    requires { ⌜ at + length (body (now table)) ≤ length (now out) ⌝ }
-    ensures { λ r. ⌜ Wrote (body (now (table .entry))) (now (out .entry)) at (now (out .exit)) r ⌝ }
+    requires { ⌜ at + length (encodeBody (now table)) ≤ length (now out) ⌝ }
+    ensures { λ r. ⌜ Wrote (encodeBody (now (table .entry))) (now (out .entry)) at (now (out .exit)) r ⌝ }
 {
     let mut end = at;
     let mut i = 0;
@@ -71,8 +71,8 @@ fn put_entries(table: &[u16], out: &mut [u8], at: usize) -> usize
 // The field of a table with so many powers, at the front of the buffer.
 fn put_field(tag: u8, table: &[u16], count: usize, out: &mut [u8]) -> usize
     requires { ⌜ Counted (now table) count ⌝ }
-    requires { ⌜ length (field tag (body (now table))) ≤ length (now out) ⌝ }
-    ensures { λ r. ⌜ Wrote (field tag (body (now (table .entry)))) (now (out .entry)) 0 (now (out .exit)) r ⌝ }
+    requires { ⌜ length (field tag (encodeBody (now table))) ≤ length (now out) ⌝ }
+    ensures { λ r. ⌜ Wrote (field tag (encodeBody (now (table .entry)))) (now (out .entry)) 0 (now (out .exit)) r ⌝ }
 {
     out[0] = tag;
     let at = put_two(out, 1, 4 * count);
@@ -82,7 +82,7 @@ fn put_field(tag: u8, table: &[u16], count: usize, out: &mut [u8]) -> usize
 // The record of tables with nb and na powers: the part behind the first field is lent on to the writer of the second.
 pub fn put_record(b: &[u16], nb: usize, a: &[u16], na: usize, out: &mut [u8]) -> usize
     requires { ⌜ Counted (now b) nb × Counted (now a) na ⌝ }
-    requires { ⌜ baseSize + (length (body (now b)) + length (body (now a))) ≤ length (now out) ⌝ }
+    requires { ⌜ baseSize + (length (encodeBody (now b)) + length (encodeBody (now a))) ≤ length (now out) ⌝ }
     ensures { λ r. ⌜ Wrote (recordOf (now (b .entry)) (now (a .entry))) (now (out .entry)) 0 (now (out .exit)) r ⌝ }
 {
     let at = put_field(B_TAG, b, nb, out);

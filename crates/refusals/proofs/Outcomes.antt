@@ -5,7 +5,7 @@ use mathlib.Core.Bool.{Bool, true, false, cond}
 use mathlib.Core.Logic.{_↔_}
 use Prim.Native.Nat.{ℕ}
 use native.Mathlib.Omega.{arith}
-use Rattle.refusals.specs.Outcomes.{Outcome, accepted, refused, valued, checked}
+use Rattle.refusals.specs.Outcomes.{Outcome, accepted, refused, valued, dropValue}
 
 module _ {A : Type 0} where
   pub accepted-same : {x y : A} → accepted x ≡ accepted y → x ≡ y
@@ -28,14 +28,14 @@ module _ {A : Type 0} where
   passed false n p o x e = (refl, e)
 
   -- What an outcome that counts as accepted holds.
-  pub checked-accepted : (o : Outcome A) → accepted 0 ≡ checked o → (x : A) × (o ≡ accepted x)
-  checked-accepted (accepted x) e = (x, refl)
-  checked-accepted (refused n p) e = absurd (accepted-refused e)
+  pub drop-accepted : (o : Outcome A) → accepted 0 ≡ dropValue o → (x : A) × (o ≡ accepted x)
+  drop-accepted (accepted x) e = (x, refl)
+  drop-accepted (refused n p) e = absurd (accepted-refused e)
 
   -- An outcome that counts as refused.
-  pub checked-refused : {n p : ℕ} (o : Outcome A) → refused n p ≡ checked o → o ≡ refused n p
-  checked-refused (accepted x) e = absurd (accepted-refused (sym e))
-  checked-refused (refused m q) e = cc
+  pub drop-refused : {n p : ℕ} (o : Outcome A) → refused n p ≡ dropValue o → o ≡ refused n p
+  drop-refused (accepted x) e = absurd (accepted-refused (sym e))
+  drop-refused (refused m q) e = cc
 
   -- An outcome with a number in place of what was found.
   pub valued-refused : (g : A → ℕ) (o : Outcome A) (n p : ℕ) → valued g o ≡ refused n p → o ≡ refused n p

@@ -28,8 +28,8 @@ valued value (accepted x) = accepted (value x)
 valued value (refused number place) = refused number place
 
 -- Accepted, with nothing to say.
-abbrev pub checked : {A : Type 0} → Outcome A → Outcome ℕ
-checked o = valued (λ x. 0) o
+abbrev pub dropValue : {A : Type 0} → Outcome A → Outcome ℕ
+dropValue o = valued (λ x. 0) o
 
 -- The outcome of a refusal.
 abbrev pub refusal : {A : Type 0} → Refusal → Outcome A

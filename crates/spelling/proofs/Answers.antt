@@ -6,7 +6,7 @@ use Prim.Native.Nat.{ℕ, suc, _<_, _≤_}
 use native.Mathlib.Omega.{arith}
 use lib.ListN.{length, replicate}
 use borrow.Author.Tests.{lt-ltb, le-ltb}
-use Rattle.lists.specs.Writes.{Wrote}
+use Rattle.lists.specs.inside.Writes.{Wrote}
 use Rattle.lists.proofs.Writes.{wrote-same}
 use Rattle.group.specs.Bytes.{bytesOf}
 use Rattle.group.specs.Forms.{bSide, aSide, Form, exponent, levels}
@@ -20,11 +20,11 @@ use Rattle.refusals.specs.declared.Verdict.{Verdict}
 use Rattle.refusals.specs.declared.Verdict.the-variants.{Accepted, Refused}
 use Rattle.refusals.specs.declared.Written.the-variants as Written
 use Rattle.records.specs.Reading.{decode}
-use Rattle.records.specs.Contracts.{Decoded}
+use Rattle.records.specs.inside.Contracts.{Decoded}
 use Rattle.records.proofs.ClearedTables.{Cleared, cleared, Read, read-refused, read-accepted, within-behind, table-at}
 use Rattle.spelling.specs.Runs.{Run, spelt}
 use Rattle.spelling.specs.Spelling.{spelling, runs}
-use Rattle.spelling.specs.Steps.{entry, risingRuns, fallingRuns, tableSpelling, tableLetters}
+use Rattle.spelling.specs.inside.Steps.{readExponent, risingRuns, fallingRuns, tableSpelling, tableLetters}
 use Rattle.spelling.specs.Contracts.{spelledIn, Spelled}
 use Rattle.spelling.proofs.Runs.{runs-up-to}
 use Rattle.spelling.proofs.Lengths.{spelt-length}
@@ -45,11 +45,11 @@ module _ {n : ℕ} {s z b a : List ℕ} {v : Verdict} {q : Refusal} (c : Cleared
 -- The word of the tables is the spelling of the form.
 module _ {n : ℕ} {s z b a : List ℕ} {f : Form} (c : Cleared n z) (r : Read s z b a f) where
   -- The entries are the exponents, the limit is above the last level, and so the runs are those of the form.
-  b-entries : (i : ℕ) → entry b i ≡ exponent bSide f i
-  b-entries i = ap (λ (t : List ℕ). entry t i) (r .b-holds) ∙ table-at f (r .within) c bSide i
+  b-entries : (i : ℕ) → readExponent b i ≡ exponent bSide f i
+  b-entries i = ap (λ (t : List ℕ). readExponent t i) (r .b-holds) ∙ table-at f (r .within) c bSide i
 
-  a-entries : (i : ℕ) → entry a i ≡ exponent aSide f i
-  a-entries i = ap (λ (t : List ℕ). entry t i) (r .a-holds) ∙ table-at f (r .within) c aSide i
+  a-entries : (i : ℕ) → readExponent a i ≡ exponent aSide f i
+  a-entries i = ap (λ (t : List ℕ). readExponent t i) (r .a-holds) ∙ table-at f (r .within) c aSide i
 
   table-levels : levels f ≤ suc limit
   table-levels =
@@ -57,7 +57,7 @@ module _ {n : ℕ} {s z b a : List ℕ} {f : Form} (c : Cleared n z) (r : Read s
 
   table-runs : risingRuns b ++ fallingRuns a ≡ runs f
   unfolding risingRuns fallingRuns
-  table-runs = runs-up-to f limit (entry b) (entry a) table-levels b-entries a-entries
+  table-runs = runs-up-to f limit (readExponent b) (readExponent a) table-levels b-entries a-entries
 
   table-spelling : tableSpelling b a ≡ spelling f
   table-spelling =
@@ -66,7 +66,9 @@ module _ {n : ℕ} {s z b a : List ℕ} {f : Form} (c : Cleared n z) (r : Read s
       ∙ sym (spelling-runs f (r .canonical .reduced))
 
   table-letters : tableLetters b a ≡ length (spelling f)
-  table-letters = sym (spelt-length (entry b 0) (risingRuns b ++ fallingRuns a) (entry a 0)) ∙ ap length table-spelling
+  table-letters =
+      sym (spelt-length (readExponent b 0) (risingRuns b ++ fallingRuns a) (readExponent a 0))
+      ∙ ap length table-spelling
 
 -- The tables of a record that is accepted, and the number k of letters of their word.
 module _ {n : ℕ} {s z b a word : List ℕ} {v : Verdict} (c : Cleared n z) (d : Decoded s z z b a v) (e : v ≡ Accepted)

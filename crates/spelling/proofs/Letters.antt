@@ -5,7 +5,7 @@ use Prim.Native.Nat.{ℕ, _+_, _-_, _<_, _≤_}
 use native.Mathlib.Omega.{arith}
 use lib.ListN.{length, set, replicate, length-replicate}
 use lib.Seq.{sets, length-sets}
-use Rattle.lists.specs.Writes.{Wrote}
+use Rattle.lists.specs.inside.Writes.{Wrote}
 use Rattle.lists.proofs.Writes.{sets-replicate}
 use Rattle.group.specs.Letters.{'a, 'A}
 use Rattle.group.specs.Bytes.{bytesOf}

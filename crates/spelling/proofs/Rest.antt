@@ -9,7 +9,7 @@ use native.Mathlib.Omega.{arith}
 use Rattle.group.specs.Letters.{Letter, 'b, 'B}
 use Rattle.group.specs.Limits.{limit}
 use Rattle.spelling.specs.Runs.{Run, putRun, rising, falling}
-use Rattle.spelling.specs.Steps.{behindPower, behindRuns, entry, risingRuns, fallingRuns}
+use Rattle.spelling.specs.inside.Steps.{behindPower, behindRuns, readExponent, risingRuns, fallingRuns}
 use Rattle.spelling.specs.declared.speller.Speller.{Speller}
 use Rattle.spelling.proofs.Behind.{behind-put, behind-more}
 
@@ -52,11 +52,11 @@ pub falling-done : (a : ℕ → ℕ) (k : ℕ) → k ≤ 0 → falling a k ≡ [
 falling-done a k h = let e : k ≡ 0 = omega arith in ap (falling a) e
 
 -- All the runs of a table are left at the start.
-pub rising-all : (t : List ℕ) → risingFrom (entry t) limit 1 ≡ risingRuns t
+pub rising-all : (t : List ℕ) → risingFrom (readExponent t) limit 1 ≡ risingRuns t
 unfolding risingRuns
 rising-all t = refl
 
-pub falling-all : (t : List ℕ) → falling (entry t) limit ≡ fallingRuns t
+pub falling-all : (t : List ℕ) → falling (readExponent t) limit ≡ fallingRuns t
 unfolding fallingRuns
 falling-all t = refl
 

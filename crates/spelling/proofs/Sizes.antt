@@ -5,7 +5,7 @@ use Prim.Native.Nat.{ℕ, zero, suc, _+_, _*_, _<_, _≤_}
 use native.Mathlib.Omega.{arith}
 use Rattle.group.specs.Letters.{'b, 'B}
 use Rattle.spelling.specs.Runs.{rising, falling}
-use Rattle.spelling.specs.Steps.{behindPower, behindRuns}
+use Rattle.spelling.specs.inside.Steps.{behindPower, behindRuns}
 use Rattle.spelling.specs.declared.speller.Speller.{Speller}
 use Rattle.spelling.proofs.Behind.{behind-put}
 

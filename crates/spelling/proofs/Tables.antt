@@ -6,7 +6,7 @@ use Prim.Native.Nat.{ℕ, _+_, _*_, _<_, _≤_}
 use native.Mathlib.Omega.{arith}
 use Rattle.group.specs.Limits.{limit}
 use Rattle.spelling.specs.Runs.{distance, lettersFrom}
-use Rattle.spelling.specs.Steps.{behindRuns, entry, risingRuns, fallingRuns, tableLetters}
+use Rattle.spelling.specs.inside.Steps.{behindRuns, readExponent, risingRuns, fallingRuns, tableLetters}
 use Rattle.spelling.specs.declared.speller.Speller.{Speller}
 use Rattle.spelling.proofs.Behind.{behind-append, behind-more, letters-behind}
 use Rattle.spelling.proofs.Sizes.{Sized, sized-rising, sized-falling}
@@ -14,18 +14,18 @@ use Rattle.spelling.proofs.Sizes.{Sized, sized-rising, sized-falling}
 -- The speller at the start, behind the b side and behind the a side.
 pub record Passed (b a : List ℕ) (start top last : Speller) : Type 0 where
   pub none : start .count ≡ 0
-  pub first : start .due ≡ entry b 0
+  pub first : start .due ≡ readExponent b 0
   pub up : top ≡ behindRuns start (risingRuns b)
   pub down : last ≡ behindRuns top (fallingRuns a)
 
 -- From what the steps of the code say.
-pub passed : (b a : List ℕ) {start top last : Speller} → (start .count ≡ 0) × (start .due ≡ entry b 0)
+pub passed : (b a : List ℕ) {start top last : Speller} → (start .count ≡ 0) × (start .due ≡ readExponent b 0)
     → top ≡ behindRuns start (risingRuns b) → last ≡ behindRuns top (fallingRuns a) → Passed b a start top last
 passed b a e u d = record { none = e .0; first = e .1; up = u; down = d }
 
 -- The exponents are 16-bit numbers.
 abbrev pub Small : List ℕ → Type 0
-Small t = (i : ℕ) → entry t i < 65536
+Small t = (i : ℕ) → readExponent t i < 65536
 
 module _ {b a : List ℕ} {start top last : Speller} (p : Passed b a start top last) where
   -- Both sides are one list of runs.
@@ -36,12 +36,12 @@ module _ {b a : List ℕ} {start top last : Speller} (p : Passed b a start top l
       ∙ sym (behind-append (risingRuns b) (fallingRuns a) start)
 
   -- With what the letters due leave of the last letters A, it is the whole word.
-  pub passed-count : last .count + distance (last .due) (entry a 0) ≡ tableLetters b a
+  pub passed-count : last .count + distance (last .due) (readExponent a 0) ≡ tableLetters b a
   passed-count =
       let zero : start .count + tableLetters b a ≡ tableLetters b a = omega (arith, p .none) in
-      ap (λ (s : Speller). s .count + distance (s .due) (entry a 0)) passed-both
-      ∙ letters-behind (risingRuns b ++ fallingRuns a) start (entry a 0)
-      ∙ ap (λ (m : ℕ). start .count + lettersFrom m (risingRuns b ++ fallingRuns a) (entry a 0)) (p .first)
+      ap (λ (s : Speller). s .count + distance (s .due) (readExponent a 0)) passed-both
+      ∙ letters-behind (risingRuns b ++ fallingRuns a) start (readExponent a 0)
+      ∙ ap (λ (m : ℕ). start .count + lettersFrom m (risingRuns b ++ fallingRuns a) (readExponent a 0)) (p .first)
       ∙ zero
 
   -- The letters of the b side, and of both sides, are letters of the word.
@@ -57,9 +57,9 @@ module _ {b a : List ℕ} {start top last : Speller} (p : Passed b a start top l
   unfolding risingRuns
   sized-top h =
       let start-sized : Sized 0 start = record { most = omega (arith, p .none); near = omega (arith, p .first, h 0) } in
-      rw (p .up) (sized-rising (entry b) h limit 0 start start-sized (omega arith))
+      rw (p .up) (sized-rising (readExponent b) h limit 0 start start-sized (omega arith))
 
   pub sized-last : Small b → Small a → Sized (262144 * limit) last
   unfolding fallingRuns
   sized-last h g =
-      rw (p .down) (sized-falling (entry a) g limit top (sized-top h) (omega arith))
+      rw (p .down) (sized-falling (readExponent a) g limit top (sized-top h) (omega arith))

@@ -6,14 +6,14 @@ use mathlib.Core.List.{List, [], _++_, append-nil}
 use Prim.Native.Nat.{ℕ, zero, suc, _<_}
 use native.Mathlib.Omega.{arith}
 use lib.ListN.{length, replicate}
-use Rattle.lists.specs.Writes.{Wrote, Writing}
+use Rattle.lists.specs.inside.Writes.{Wrote, Writing}
 use Rattle.lists.proofs.Writes.{write-then, wrote-same, write-start, write-more, writing-same, write-done}
 use Rattle.lists.proofs.Writes.{writing-length}
 use Rattle.group.specs.Letters.{Letter, Word}
 use Rattle.group.specs.Bytes.{byteOf, bytesOf}
 use Rattle.group.proofs.Bytes.{bytes-length, bytes-append, bytes-replicate}
 use Rattle.spelling.specs.Runs.{Run, putRun, turn, runLetters, spelt}
-use Rattle.spelling.specs.Steps.{behindRun, behindRuns, WroteRuns}
+use Rattle.spelling.specs.inside.Steps.{behindRun, behindRuns, WroteRuns}
 use Rattle.spelling.specs.declared.speller.Speller.{Speller}
 use Rattle.spelling.proofs.Runs.{put-append}
 use Rattle.spelling.proofs.Behind.{behind-append, behind-put, behind-count, letters-append}

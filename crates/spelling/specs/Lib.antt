@@ -1,5 +1,6 @@
--- The spelling of a form, run by run; the speller's steps; the contract of record to word.
+-- The spelling of a form, run by run, and the contract of record to word.
 pub mod Runs
 pub mod Spelling
-pub mod Steps
 pub mod Contracts
+-- what no claim reaches
+pub mod inside

@@ -3,7 +3,7 @@ ghost use mathlib.Core.Path.{_≡_};
 ghost use Prim.Native.Nat.{_<_, _^_};
 ghost use lib.ListN.{length};
 ghost use Rattle.group.specs.Limits.{limit};
-ghost use Rattle.spelling.specs.Steps.{behindRuns, risingRuns, fallingRuns, tableLetters};
+ghost use Rattle.spelling.specs.inside.Steps.{behindRuns, risingRuns, fallingRuns, tableLetters};
 use super::speller;
 use super::speller::Speller;
 use refusals::GeneratorIndex;

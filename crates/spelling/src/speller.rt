@@ -8,9 +8,9 @@ ghost use Prim.Native.Nat.{_+_, _-_, _<_, _≤_, _^_};
 ghost use lib.ListN.{length, replicate};
 ghost use Rattle.group.specs.Letters.{'b, 'B};
 ghost use Rattle.group.specs.Bytes.{bytesOf};
-ghost use Rattle.lists.specs.Writes.{Wrote};
+ghost use Rattle.lists.specs.inside.Writes.{Wrote};
 ghost use Rattle.spelling.specs.Runs.{putRun, turn, distance};
-ghost use Rattle.spelling.specs.Steps.{behindPower, WroteRuns};
+ghost use Rattle.spelling.specs.inside.Steps.{behindPower, WroteRuns};
 use refusals::GeneratorIndex;
 
 // How many letters are spelled, and how many letters `a` are due behind them.

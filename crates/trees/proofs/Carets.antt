@@ -1,6 +1,6 @@
 -- Caret k stands between the leaves k and k + 1, and has two subtrees (01, 'The tree pair and the length'; 000,
 -- definition 2.1 and section 2.5).
---     CaretAt t k v   caret k is at the address v, by the sides of the carets: the same as Caret t k v
+--     CaretAt t k v   caret k is at the address v, by the sides of the carets: the same as IsCaret t k v
 --     caret-between   the leaves beside a caret
 -- Assumes nothing.
 use mathlib.Core.Path.{_≡_, refl, sym, subst}
@@ -12,7 +12,7 @@ use lib.ListN.{length, length-append}
 use Rattle.lists.specs.Entries.{At}
 use Rattle.lists.proofs.Entries.{at-first, at-second, at-split, at-bound}
 use Rattle.group.specs.Points.{𝟎, 𝟏}
-use Rattle.trees.specs.Trees.{Tree, leaf, caret, carets, Address, below, Leaf, caretPlaces, Caret, Subtree}
+use Rattle.trees.specs.Trees.{Tree, leaf, caret, carets, Address, below, IsLeaf, caretPlaces, IsCaret, Subtree}
 use Rattle.trees.specs.Exponents.{leftEdges, rightEdges}
 use Rattle.trees.proofs.Leaves.{below-length, to-below, of-below, LeafAt, of-leaf}
 
@@ -37,13 +37,13 @@ CaretAt (caret l r) k (𝟎 ∷ v) = CaretAt l k v
 CaretAt (caret l r) k (𝟏 ∷ v) = (j : ℕ) × (k ≡ suc (carets l + j)) × CaretAt r j v
 
 -- Entry k of the list of places is CaretAt, and the other way round.
-pub to-caret : (t : Tree) (k : ℕ) (v : Address) → Caret t k v → CaretAt t k v
+pub to-caret : (t : Tree) (k : ℕ) (v : Address) → IsCaret t k v → CaretAt t k v
 to-caret leaf k v h = absurd h
 to-caret (caret l r) k v h =
     go (at-split (below 𝟎 (caretPlaces l)) ([] ∷ below 𝟏 (caretPlaces r)) k v h) (to-caret l) (to-caret r)
   where
     root : (j : ℕ) → k ≡ carets l + j → At ([] ∷ below 𝟏 (caretPlaces r)) j v
-        → ((i : ℕ) (w : Address) → Caret r i w → CaretAt r i w) → CaretAt (caret l r) k v
+        → ((i : ℕ) (w : Address) → IsCaret r i w → CaretAt r i w) → CaretAt (caret l r) k v
     root zero e p right =
         let q : k ≡ carets l = omega arith in
         subst (λ (w : Address). CaretAt (caret l r) k w) p q
@@ -53,15 +53,15 @@ to-caret (caret l r) k v h =
 
     go : At (below 𝟎 (caretPlaces l)) k v
         ⊎ ((j : ℕ) × (k ≡ length (below 𝟎 (caretPlaces l)) + j) × At ([] ∷ below 𝟏 (caretPlaces r)) j v)
-        → ((i : ℕ) (w : Address) → Caret l i w → CaretAt l i w)
-        → ((i : ℕ) (w : Address) → Caret r i w → CaretAt r i w) → CaretAt (caret l r) k v
+        → ((i : ℕ) (w : Address) → IsCaret l i w → CaretAt l i w)
+        → ((i : ℕ) (w : Address) → IsCaret r i w → CaretAt r i w) → CaretAt (caret l r) k v
     go (inl p) left right =
         let q = of-below 𝟎 (caretPlaces l) k v p in
         subst (λ (w : Address). CaretAt (caret l r) k w) (q .1) (left k (q .0) (q .2))
     go (inr p) left right =
         root (p .0) (omega (arith, p .1, below-length 𝟎 (caretPlaces l), carets-numbered l)) (p .2) right
 
-pub of-caret : (t : Tree) (k : ℕ) (v : Address) → CaretAt t k v → Caret t k v
+pub of-caret : (t : Tree) (k : ℕ) (v : Address) → CaretAt t k v → IsCaret t k v
 of-caret leaf k v h = absurd h
 of-caret (caret l r) k [] h =
     at-second (below 𝟎 (caretPlaces l)) ([] ∷ below 𝟏 (caretPlaces r)) k 0 []
@@ -105,8 +105,8 @@ beside (caret l r) k (𝟏 ∷ v) h =
     (q .0, q .1, (h .0, h .1, q .2), (suc (h .0), omega (arith, h .1), q .3))
 
 -- Leaf k is the last below the left edge of caret k, leaf k + 1 the first below its right edge.
-pub caret-between : (t : Tree) (k : ℕ) (v : Address) → Caret t k v
-    → (m n : ℕ) × Leaf t k (v ++ (𝟎 ∷ rightEdges m)) × Leaf t (suc k) (v ++ (𝟏 ∷ leftEdges n))
+pub caret-between : (t : Tree) (k : ℕ) (v : Address) → IsCaret t k v
+    → (m n : ℕ) × IsLeaf t k (v ++ (𝟎 ∷ rightEdges m)) × IsLeaf t (suc k) (v ++ (𝟏 ∷ leftEdges n))
 caret-between t k v h =
     let q = beside t k v (to-caret t k v h) in (
       q .0,
@@ -124,7 +124,7 @@ subtree-append (caret l r) (𝟎 ∷ u) v x y h g = subtree-append l u v x y h g
 subtree-append (caret l r) (𝟏 ∷ u) v x y h g = subtree-append r u v x y h g
 
 -- At a caret's address stands a caret over two subtrees.
-pub caret-subtree : (t : Tree) (k : ℕ) (v : Address) → Caret t k v → (l r : Tree) × Subtree t v (caret l r)
+pub caret-subtree : (t : Tree) (k : ℕ) (v : Address) → IsCaret t k v → (l r : Tree) × Subtree t v (caret l r)
 caret-subtree t k v h = go t k v (to-caret t k v h)
   where
     go : (s : Tree) (i : ℕ) (u : Address) → CaretAt s i u → (l r : Tree) × Subtree s u (caret l r)

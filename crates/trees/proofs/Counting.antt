@@ -7,7 +7,7 @@ use lib.ListN.{length, drop, getD}
 use lib.Seq.{drop-cons, drop-length}
 use Rattle.lists.specs.Entries.{total}
 use Rattle.trees.specs.Building.{needed, raised}
-use Rattle.trees.specs.Steps.{Unused}
+use Rattle.trees.specs.inside.Steps.{Unused}
 
 -- An exponent above 0.
 pub raised-some : (i e sum behind r s : ℕ) → 0 < e → s ≡ i + sum + 1 → r ≡ max s behind → r ≡ raised i e sum behind

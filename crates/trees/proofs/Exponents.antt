@@ -15,7 +15,7 @@ use Rattle.lists.proofs.Entries.{at-getD, at-map}
 use Rattle.group.specs.Points.{Digit, 𝟎, 𝟏}
 use Rattle.group.specs.Forms.{Side, Form, exponent, exponents}
 use Rattle.group.proofs.Exponents.{exponents-at}
-use Rattle.trees.specs.Trees.{Tree, leaf, caret, carets, Address, below, leaves, Leaf, RightSide}
+use Rattle.trees.specs.Trees.{Tree, leaf, caret, carets, Address, below, leaves, IsLeaf, RightSide}
 use Rattle.trees.specs.Exponents.{leftEdges, UpFrom, LeafExponent, HasExponents}
 use Rattle.trees.proofs.Readings.{leftEdge, later, exponentsOf}
 use Rattle.trees.proofs.Leaves.{leaf-of, of-leaf}
@@ -126,7 +126,7 @@ leaf-exponents (caret l r) =
     (leftEdge l ∷ later l) ++ exponentsOf r ∎
 
 -- Entry k of the exponents of a tree is the exponent of leaf k.
-pub exponent-at-leaf : (t : Tree) (k : ℕ) (u : Address) → Leaf t k u → getD (exponentsOf t) k 0 ≡ addressExponent u
+pub exponent-at-leaf : (t : Tree) (k : ℕ) (u : Address) → IsLeaf t k u → getD (exponentsOf t) k 0 ≡ addressExponent u
 exponent-at-leaf t k u h =
     ap (λ (es : List ℕ). getD es k 0) (sym (leaf-exponents t))
     ∙ at-getD (map addressExponent (leaves t)) k (addressExponent u) 0 (at-map addressExponent (leaves t) k u h)
@@ -160,7 +160,7 @@ has-exponents t es = ((λ h i. entry h i (decLe i (carets t))), back)
         → getD (exponentsOf t) i 0 ≡ getD es i 0
     entry h i (yes c) =
         let u = leaf-of t i c in
-        let is-leaf : Leaf t i (u .0) = of-leaf t i (u .0) (u .1) in
+        let is-leaf : IsLeaf t i (u .0) = of-leaf t i (u .0) (u .1) in
         exponent-at-leaf t i (u .0) is-leaf
         ∙ sym (leaf-exponent-is (u .0) (getD es i 0) (h .at-leaf i (u .0) is-leaf))
     entry h i (no c) = exponents-behind t i (omega arith) ∙ sym (h .behind-last i (omega arith))

@@ -1,5 +1,5 @@
 -- The leaves of a tree by their numbers, which are 0 to N where it has N carets (01, 'The tree pair and the length').
---     LeafAt t k u   leaf k is at the address u, by the sides of the carets: the same as Leaf t k u
+--     LeafAt t k u   leaf k is at the address u, by the sides of the carets: the same as IsLeaf t k u
 -- Assumes nothing.
 use mathlib.Core.Path.{_≡_, refl, ap, subst}
 use mathlib.Core.List.{List, [], _∷_, _++_}
@@ -10,7 +10,7 @@ use lib.ListN.{length, length-append}
 use Rattle.lists.specs.Entries.{At}
 use Rattle.lists.proofs.Entries.{at-first, at-second, at-split, at-bound, at-exists}
 use Rattle.group.specs.Points.{Digit, 𝟎, 𝟏}
-use Rattle.trees.specs.Trees.{Tree, leaf, caret, carets, Address, below, leaves, Leaf}
+use Rattle.trees.specs.Trees.{Tree, leaf, caret, carets, Address, below, leaves, IsLeaf}
 
 -- Addresses with one edge in front: as many as without it, each in its place.
 pub below-length : (d : Digit) (us : List Address) → length (below d us) ≡ length us
@@ -47,14 +47,14 @@ leaves-length leaf = refl
 leaves-length (caret l r) = omega (arith, both-length (leaves l) (leaves r), leaves-length l, leaves-length r)
 
 -- Entry k of the list of leaves is LeafAt, and the other way round.
-pub to-leaf : (t : Tree) (k : ℕ) (u : Address) → Leaf t k u → LeafAt t k u
+pub to-leaf : (t : Tree) (k : ℕ) (u : Address) → IsLeaf t k u → LeafAt t k u
 to-leaf leaf zero u h = subst (λ (w : Address). LeafAt leaf 0 w) h refl
 to-leaf leaf (suc k) u h = absurd h
 to-leaf (caret l r) k u h = go (at-split (below 𝟎 (leaves l)) (below 𝟏 (leaves r)) k u h) (to-leaf l) (to-leaf r)
   where
     go : At (below 𝟎 (leaves l)) k u ⊎ ((j : ℕ) × (k ≡ length (below 𝟎 (leaves l)) + j) × At (below 𝟏 (leaves r)) j u)
-        → ((k : ℕ) (u : Address) → Leaf l k u → LeafAt l k u)
-        → ((k : ℕ) (u : Address) → Leaf r k u → LeafAt r k u) → LeafAt (caret l r) k u
+        → ((k : ℕ) (u : Address) → IsLeaf l k u → LeafAt l k u)
+        → ((k : ℕ) (u : Address) → IsLeaf r k u → LeafAt r k u) → LeafAt (caret l r) k u
     go (inl p) left right =
         let q = of-below 𝟎 (leaves l) k u p in
         subst (λ (w : Address). LeafAt (caret l r) k w) (q .1) (left k (q .0) (q .2))
@@ -63,7 +63,7 @@ to-leaf (caret l r) k u h = go (at-split (below 𝟎 (leaves l)) (below 𝟏 (le
         subst (λ (w : Address). LeafAt (caret l r) k w) (q .1)
         (p .0, omega (arith, p .1, below-length 𝟎 (leaves l), leaves-length l), right (p .0) (q .0) (q .2))
 
-pub of-leaf : (t : Tree) (k : ℕ) (u : Address) → LeafAt t k u → Leaf t k u
+pub of-leaf : (t : Tree) (k : ℕ) (u : Address) → LeafAt t k u → IsLeaf t k u
 of-leaf leaf k [] h = rw h refl
 of-leaf leaf k (d ∷ u) h = absurd h
 of-leaf (caret l r) k [] h = absurd h

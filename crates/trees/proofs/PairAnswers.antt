@@ -20,8 +20,8 @@ use Rattle.trees.specs.declared.Pairing.the-variants.{Carets, Refused, U
 use Rattle.trees.specs.Building.{treeOf}
 use Rattle.trees.specs.Pairs.{caretsOfSides, maxCarets}
 use Rattle.trees.specs.Shapes.{shape, shapeSize}
-use Rattle.trees.specs.Writing.{pairingOf, tableCarets, pairCarets, WrotePair}
-use Rattle.trees.specs.Steps.{Fits}
+use Rattle.trees.specs.inside.Writing.{pairingOf, tableCarets, pairCarets, WrotePair}
+use Rattle.trees.specs.inside.Steps.{ShapeFits}
 use Rattle.trees.proofs.Pairing as Answer
 
 -- A table with too many entries.
@@ -128,7 +128,7 @@ pair-unfit {b} {a} {m} {p} {r} answers h =
 
 module _ {b a : List ℕ} {n : ℕ} (c : Counts b a n) where
   -- Both trees have room.
-  pub fits-minus : {m : List ℕ} → shapeSize n ≤ length m → Fits a n m
+  pub fits-minus : {m : List ℕ} → shapeSize n ≤ length m → ShapeFits a n m
   fits-minus room = record {
     entries = c .a-entries;
     enough = omega (arith, c .carets);
@@ -136,7 +136,7 @@ module _ {b a : List ℕ} {n : ℕ} (c : Counts b a n) where
     room = room;
   }
 
-  pub fits-plus : {p : List ℕ} → shapeSize n ≤ length p → Fits b n p
+  pub fits-plus : {p : List ℕ} → shapeSize n ≤ length p → ShapeFits b n p
   fits-plus room = record {
     entries = c .b-entries;
     enough = omega (arith, c .carets);

@@ -12,11 +12,11 @@ use lib.Dec.{lit<}
 use lib.ListN.{length, replicate, drop, getD, set, length-append, length-replicate, length-set}
 use lib.ListN.{drop-of-length-le}
 use lib.Seq.{sets, append-snoc}
-use Rattle.lists.specs.Writes.{Wrote, Writing}
+use Rattle.lists.specs.inside.Writes.{Wrote, Writing}
 use Rattle.lists.proofs.Writes.{sets-append, write-start, write-more, writing-same, writing-length}
 use Rattle.lists.proofs.Writes.{wrote-same, write-then}
-use Rattle.trees.specs.Writing.{nodesFrom}
-use Rattle.trees.specs.Steps.{Room, Partly}
+use Rattle.trees.specs.inside.Writing.{nodesFrom}
+use Rattle.trees.specs.inside.Steps.{NodesFit, Partly}
 use Rattle.trees.specs.declared.writer.Place.{Place}
 
 abbrev pub own : ℕ → List ℕ
@@ -94,7 +94,7 @@ pub record Pending (e : List ℕ) (k₀ : ℕ) (entry : List ℕ) (at : ℕ) (no
   pub on : at ≤ p
   pub past : o ≡ 0 → at < p
 
-pub pending-start : {e : List ℕ} {k : ℕ} {entry : List ℕ} {at : ℕ} → Room e k 1 at entry
+pub pending-start : {e : List ℕ} {k : ℕ} {entry : List ℕ} {at : ℕ} → NodesFit e k 1 at entry
     → Pending e k entry at entry k at 1
 pending-start r = record {
   writing = write-start _ _ _;
@@ -104,7 +104,7 @@ pending-start r = record {
 }
 
 module _ {e : List ℕ} {k₀ : ℕ} {entry : List ℕ} {at : ℕ} {now : List ℕ} {k p o : ℕ}
-    (h : Pending e k₀ entry at now k p o) (r : Room e k₀ 1 at entry) where
+    (h : Pending e k₀ entry at now k p o) (r : NodesFit e k₀ 1 at entry) where
   pub pending-room : p + length (nodesFrom (drop k e) o) ≤ length now
   pending-room = omega (arith, writing-length (h .writing), h .writing .ends, r .room)
 
@@ -126,12 +126,12 @@ module _ {e : List ℕ} {k₀ : ℕ} {entry : List ℕ} {at : ℕ} {now : List �
     }
 
 -- The right side from a leaf on: a caret, and room for the subtree that hangs on it.
-module _ {e : List ℕ} {k at : ℕ} {entry : List ℕ} (r : Room e k 0 at entry) where
+module _ {e : List ℕ} {k at : ℕ} {entry : List ℕ} (r : NodesFit e k 0 at entry) where
   module _ (more : k < length e) where
     pub spine-length : length (nodesFrom (drop k e) 0) ≡ suc (length (nodesFrom (drop k e) 1))
     spine-length = ap length (nodes-spine e k more)
 
-    pub spine-room : Room e k 1 (at + 1) (set entry at 1)
+    pub spine-room : NodesFit e k 1 (at + 1) (set entry at 1)
     spine-room = record {
       room = simp length-set (omega (arith, spine-length, r .room));
       small = omega (arith, spine-length, r .small);
@@ -149,7 +149,7 @@ module _ {e : List ℕ} {k at : ℕ} {entry : List ℕ} (r : Room e k 0 at entry
 
 -- Room for the right side behind an interior subtree.
 pub rest-room : {e : List ℕ} {k at : ℕ} {entry exit : List ℕ} {p : Place} → Partly e k entry at exit p
-    → Room e k 1 at entry → Room e (p .leaf .0) 0 (p .at) exit
+    → NodesFit e k 1 at entry → NodesFit e (p .leaf .0) 0 (p .at) exit
 rest-room w r = record {
   room = omega (arith, w .writing .ends, writing-length (w .writing), r .room);
   small = omega (arith, w .writing .ends, r .small);

@@ -14,8 +14,8 @@ use Rattle.trees.specs.Trees.{carets}
 use Rattle.trees.specs.Building.{needed, treeOf}
 use Rattle.trees.specs.Pairs.{maxCarets}
 use Rattle.trees.specs.Shapes.{shape, shapeSize}
-use Rattle.trees.specs.Writing.{nodesFrom}
-use Rattle.trees.specs.Steps.{Room, Fits, copiedFront}
+use Rattle.trees.specs.inside.Writing.{nodesFrom}
+use Rattle.trees.specs.inside.Steps.{NodesFit, ShapeFits, copiedFront}
 use Rattle.trees.proofs.Rows.{tree-same}
 use Rattle.trees.proofs.Needed.{needed-holds, needed-same}
 use Rattle.trees.proofs.Built.{tree-carets}
@@ -23,7 +23,7 @@ use Rattle.trees.proofs.Shapes.{shape-length}
 use Rattle.trees.proofs.Nodes.{nodes-shape}
 
 -- The tree with n carets, from its first leaf: the exponents of the n first leaves decide it.
-module _ {e : List ℕ} {n : ℕ} {buffer : List ℕ} (f : Fits e n buffer) (whole : n ≤ length e) where
+module _ {e : List ℕ} {n : ℕ} {buffer : List ℕ} (f : ShapeFits e n buffer) (whole : n ≤ length e) where
   pub front-length : length (take n e) ≡ n
   front-length = simp length-take (omega arith)
 
@@ -45,7 +45,7 @@ module _ {e : List ℕ} {n : ℕ} {buffer : List ℕ} (f : Fits e n buffer) (who
       nodes-shape n (take n e) (front-length) front-needed
       ∙ ap shape (tree-same n (take n e) e front-same)
 
-  pub tree-room : Room (take n e) 0 0 0 buffer
+  pub tree-room : NodesFit (take n e) 0 0 0 buffer
   tree-room =
       let l : length (nodesFrom (take n e) 0) ≡ shapeSize n =
       length (nodesFrom (take n e) 0) ≡⟨ ap length tree-nodes ⟩
@@ -74,7 +74,7 @@ copied-same e m i = go (decLt i (length e))
         getD e i 0 ∎
 
 -- It needs as many carets and has the same tree.
-module _ {e : List ℕ} {n : ℕ} {buffer : List ℕ} (f : Fits e n buffer) {table : List ℕ}
+module _ {e : List ℕ} {n : ℕ} {buffer : List ℕ} (f : ShapeFits e n buffer) {table : List ℕ}
     (copied : table ≡ copiedFront e (replicate maxCarets 0)) where
   table-same : SameEntries table e
   table-same i = ap (λ (t : List ℕ). getD t i 0) copied ∙ copied-same e maxCarets i
@@ -88,7 +88,7 @@ module _ {e : List ℕ} {n : ℕ} {buffer : List ℕ} (f : Fits e n buffer) {tab
       length zeros ≡⟨ size ⟩
       maxCarets ∎
 
-  pub copied-fits : Fits table n buffer
+  pub copied-fits : ShapeFits table n buffer
   copied-fits = record {
     entries = omega (arith, table-length);
     enough = omega (arith, needed-same table e table-same, f .enough);

@@ -7,7 +7,7 @@ use mathlib.Core.List.{[], _∷_, _++_}
 use mathlib.Core.Logic.{_⊎_}
 use Prim.Native.Nat.{ℕ, zero, suc, _<_, _≤_}
 use Rattle.group.specs.Points.{𝟎, 𝟏}
-use Rattle.trees.specs.Trees.{Tree, carets, Address, Leaf, RightSide}
+use Rattle.trees.specs.Trees.{Tree, carets, Address, IsLeaf, RightSide}
 
 -- k left edges, one below the other.
 abbrev pub leftEdges : ℕ → Address
@@ -31,5 +31,5 @@ pub record LeafExponent (u : Address) (e : ℕ) : Type 0 where
 
 -- Leaf k has the exponent e k, for every leaf, and the exponents behind the last leaf are 0.
 pub record HasExponents (t : Tree) (e : ℕ → ℕ) : Type 0 where
-  pub at-leaf : (k : ℕ) (u : Address) → Leaf t k u → LeafExponent u (e k)
+  pub at-leaf : (k : ℕ) (u : Address) → IsLeaf t k u → LeafExponent u (e k)
   pub behind-last : (k : ℕ) → carets t < k → e k ≡ 0

@@ -4,5 +4,5 @@ pub mod Exponents
 pub mod Building
 pub mod Pairs
 pub mod Shapes
-pub mod Writing
-pub mod Steps
+-- what no claim reaches
+pub mod inside

@@ -10,7 +10,7 @@ use Rattle.group.specs.Points.{Digit, 𝟎, 𝟏, below1, SamePoint}
 use Rattle.group.specs.Maps.{mapOf}
 use Rattle.group.specs.Forms.{bSide, aSide, Form, exponent, exponents, letters}
 use Rattle.group.specs.Limits.{limit}
-use Rattle.trees.specs.Trees.{Tree, carets, Address, Leaf}
+use Rattle.trees.specs.Trees.{Tree, carets, Address, IsLeaf}
 use Rattle.trees.specs.Exponents.{HasExponents}
 use Rattle.trees.specs.Building.{needed, treeOf}
 
@@ -47,8 +47,8 @@ pub record SmallestPair (f : Form) (t s : Tree) : Type 0 where
 -- Leaves i and i + 1 are the two leaves of one caret.
 pub record Exposed (t : Tree) (i : ℕ) : Type 0 where
   pub top : Address
-  pub left : Leaf t i (top ++ (𝟎 ∷ []))
-  pub right : Leaf t (suc i) (top ++ (𝟏 ∷ []))
+  pub left : IsLeaf t i (top ++ (𝟎 ∷ []))
+  pub right : IsLeaf t (suc i) (top ++ (𝟏 ∷ []))
 
 -- A caret of the pair is redundant: its leaves have the same numbers in both trees (000, definitions 2.4 and 2.5).
 pub record Redundant (t s : Tree) : Type 0 where
@@ -60,7 +60,7 @@ pub record Redundant (t s : Tree) : Type 0 where
 -- replaced and the digits behind it stay.
 abbrev pub SendsLeaves : Form → Tree → Tree → Type 0
 SendsLeaves f t s =
-    (k : ℕ) (u v : Address) → Leaf t k u → Leaf s k v → (r : List Digit)
+    (k : ℕ) (u v : Address) → IsLeaf t k u → IsLeaf s k v → (r : List Digit)
     → SamePoint (mapOf (letters f) (below1 (u ++ r))) (below1 (v ++ r))
 
 -- A point below 1 lies in a leaf: its digits, with zeros behind, begin with the leaf's address.
@@ -68,5 +68,5 @@ pub record InLeaf (t : Tree) (p : List Digit) : Type 0 where
   pub number : ℕ
   pub address : Address
   pub rest : List Digit
-  pub is-leaf : Leaf t number address
+  pub is-leaf : IsLeaf t number address
   pub same : SamePoint (below1 p) (below1 (address ++ rest))

@@ -1,6 +1,6 @@
 -- Rooted binary trees, their carets and leaves (01, 'The tree pair and the length'; 000, definition 2.1, section 2.5).
---     carets t          the number N of carets              Leaf t k u      leaf k is at the address u
---     Address           the way down from the root          Caret t k v     caret k is at the address v
+--     carets t          the number N of carets              IsLeaf t k u    leaf k is at the address u
+--     Address           the way down from the root          IsCaret t k v   caret k is at the address v
 --     LeftSide v, RightSide v   sides of a tree, both with the root    Subtree t u x   x is the subtree at u
 -- Assumes nothing.
 use mathlib.Core.Path.{_≡_}
@@ -34,8 +34,8 @@ leaves leaf = [] ∷ []
 leaves (caret l r) = below 𝟎 (leaves l) ++ below 𝟏 (leaves r)
 
 -- Leaf k, counted from 0 and from the left, is at the address u.
-abbrev pub Leaf : Tree → ℕ → Address → Type 0
-Leaf t k u = At (leaves t) k u
+abbrev pub IsLeaf : Tree → ℕ → Address → Type 0
+IsLeaf t k u = At (leaves t) k u
 
 -- The addresses of the carets, from left to right: those of the left subtree, the caret itself, the right subtree.
 abbrev pub caretPlaces : Tree → List Address
@@ -43,8 +43,8 @@ caretPlaces leaf = []
 caretPlaces (caret l r) = below 𝟎 (caretPlaces l) ++ ([] ∷ below 𝟏 (caretPlaces r))
 
 -- Caret k, the one between the leaves k and k + 1, is at the address v.
-abbrev pub Caret : Tree → ℕ → Address → Type 0
-Caret t k v = At (caretPlaces t) k v
+abbrev pub IsCaret : Tree → ℕ → Address → Type 0
+IsCaret t k v = At (caretPlaces t) k v
 
 -- The subtree at an address is x.
 abbrev pub Subtree : Tree → Address → Tree → Type 0

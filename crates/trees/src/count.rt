@@ -4,7 +4,7 @@ ghost use Prim.Native.Nat.{_≤_, max};
 ghost use lib.ListN.{length};
 ghost use Rattle.trees.specs.Building.{needed as neededFrom, raised as raisedBy};
 ghost use Rattle.trees.specs.Pairs.{maxCarets, caretsOfSides};
-ghost use Rattle.trees.specs.Steps.{Unused};
+ghost use Rattle.trees.specs.inside.Steps.{Unused};
 use refusals::GeneratorIndex;
 
 // The larger of two numbers.

@@ -1,6 +1,6 @@
 // Tree pairs of forms.
 ghost use mathlib.Core.Path.{_≡_};
-ghost use Rattle.trees.specs.Writing.{pairingOf, tableCarets, WrotePair};
+ghost use Rattle.trees.specs.inside.Writing.{pairingOf, tableCarets, WrotePair};
 use refusals::LIMIT;
 use refusals::Refusal;
 

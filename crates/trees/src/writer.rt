@@ -5,11 +5,11 @@ ghost use mathlib.Core.List.{[], _∷_, _++_};
 ghost use Prim.Native.Nat.{_+_, _≤_, _<_};
 ghost use lib.ListN.{length, drop, getD, replicate};
 ghost use lib.Seq.{sets};
-ghost use Rattle.lists.specs.Writes.{Wrote};
-ghost use Rattle.trees.specs.Writing.{nodesFrom};
+ghost use Rattle.lists.specs.inside.Writes.{Wrote};
+ghost use Rattle.trees.specs.inside.Writing.{nodesFrom};
 ghost use Rattle.trees.specs.Building.{treeOf};
 ghost use Rattle.trees.specs.Shapes.{shape as shapeOf};
-ghost use Rattle.trees.specs.Steps.{Room, Partly, Fits, copiedFront};
+ghost use Rattle.trees.specs.inside.Steps.{NodesFit, Partly, ShapeFits, copiedFront};
 use crate::MAX_CARETS;
 use refusals::GeneratorIndex;
 use refusals::LeafNumber;
@@ -59,7 +59,7 @@ fn leaf_exponent(e: &[u16], leaf: LeafNumber) -> usize
 
 // The interior subtree that begins at a leaf: leaf by leaf, until no subtree is pending.
 fn write_subtree(e: &[u16], leaf: LeafNumber, shape: &mut [u8], at: usize) -> Place
-    requires { ⌜ Room (now e) (leaf .0) 1 at (now shape) ⌝ }
+    requires { ⌜ NodesFit (now e) (leaf .0) 1 at (now shape) ⌝ }
     ensures { λ r. ⌜ Partly (now (e .entry)) (leaf .0) (now (shape .entry)) at (now (shape .exit)) r ⌝ }
 {
     let mut k = leaf.0;
@@ -79,7 +79,7 @@ fn write_subtree(e: &[u16], leaf: LeafNumber, shape: &mut [u8], at: usize) -> Pl
 
 // The rest of the tree from a leaf on, where a caret of the right side begins; answers where it ends.
 fn write_spine(e: &[u16], leaf: LeafNumber, shape: &mut [u8], at: usize) -> usize
-    requires { ⌜ Room (now e) (leaf .0) 0 at (now shape) ⌝ }
+    requires { ⌜ NodesFit (now e) (leaf .0) 0 at (now shape) ⌝ }
     ensures { λ r. ⌜ Wrote (nodesFrom (drop (leaf .0) (now (e .entry))) 0) (now (shape .entry)) at
         (now (shape .exit)) r ⌝ }
 {
@@ -92,7 +92,7 @@ fn write_spine(e: &[u16], leaf: LeafNumber, shape: &mut [u8], at: usize) -> usiz
 
 // The rest of the tree from a leaf on, where an interior subtree begins.
 fn write_inner(e: &[u16], leaf: LeafNumber, shape: &mut [u8], at: usize) -> usize
-    requires { ⌜ Room (now e) (leaf .0) 1 at (now shape) ⌝ }
+    requires { ⌜ NodesFit (now e) (leaf .0) 1 at (now shape) ⌝ }
     ensures { λ r. ⌜ Wrote (nodesFrom (drop (leaf .0) (now (e .entry))) 1) (now (shape .entry)) at
         (now (shape .exit)) r ⌝ }
 {
@@ -102,7 +102,7 @@ fn write_inner(e: &[u16], leaf: LeafNumber, shape: &mut [u8], at: usize) -> usiz
 
 // The tree with n carets and the exponents of a table that has an entry for every leaf but the last.
 fn write_whole(e: &[u16], n: usize, shape: &mut [u8])
-    requires { ⌜ Fits (now e) n (now shape) ⌝ }
+    requires { ⌜ ShapeFits (now e) n (now shape) ⌝ }
     requires { ⌜ n ≤ length (now e) ⌝ }
     ensures { λ _. ⌜ now (shape .exit) ≡ sets (now (shape .entry)) 0 (shapeOf (treeOf n (now (e .entry)))) ⌝ }
 {
@@ -123,7 +123,7 @@ fn copy_front(e: &[u16], table: &mut [u16])
 
 // The same tree from a shorter table: zeros stand behind its entries.
 fn write_short(e: &[u16], n: usize, shape: &mut [u8])
-    requires { ⌜ Fits (now e) n (now shape) ⌝ }
+    requires { ⌜ ShapeFits (now e) n (now shape) ⌝ }
     ensures { λ _. ⌜ now (shape .exit) ≡ sets (now (shape .entry)) 0 (shapeOf (treeOf n (now (e .entry)))) ⌝ }
 {
     let mut table = [0u16; MAX_CARETS];
@@ -133,7 +133,7 @@ fn write_short(e: &[u16], n: usize, shape: &mut [u8])
 
 // The tree with n carets and the exponents of a table, at the front of a buffer.
 pub fn write_tree(e: &[u16], n: usize, shape: &mut [u8])
-    requires { ⌜ Fits (now e) n (now shape) ⌝ }
+    requires { ⌜ ShapeFits (now e) n (now shape) ⌝ }
     ensures { λ _. ⌜ now (shape .exit) ≡ sets (now (shape .entry)) 0 (shapeOf (treeOf n (now (e .entry)))) ⌝ }
 {
     if e.len() < n {

@@ -18,11 +18,11 @@ use Rattle.refusals.specs.declared.Verdict.the-variants.{Accepted, Refused}
 use Rattle.refusals.specs.declared.Refusal.{Refusal}
 use Rattle.refusals.specs.declared.Written.the-variants.{Refused as NotWritten}
 use Rattle.refusals.specs.Refusals.{numberOf, placeOf}
-use Rattle.refusals.specs.Outcomes.{Outcome, accepted, refused, checked, verdictOf}
-use Rattle.refusals.proofs.Outcomes.{accepted-same, checked-accepted, checked-refused}
+use Rattle.refusals.specs.Outcomes.{Outcome, accepted, refused, dropValue, verdictOf}
+use Rattle.refusals.proofs.Outcomes.{accepted-same, drop-accepted, drop-refused}
 use Rattle.records.proofs.Lengths.{encode-size}
 use Rattle.forest.specs.Filling.{cells, room, tableAfter}
-use Rattle.words.specs.Recording.{recordOfWord, recorded, bufferAfter, Memory, judgedWith, Left}
+use Rattle.words.specs.Recording.{encodeWord, countRecord, bufferAfter, Memory, judgedWith, Left}
 use Rattle.words.specs.Recording.{Recorded, Accepts, Ready, WordWritten}
 use Rattle.words.specs.Comparing.{decided, decisionOf, sameBytes, verdictBy, beside}
 use Rattle.words.specs.Comparing.{Compared, TwoWritten}
@@ -39,19 +39,19 @@ left-kept o n p m e = record {
 }
 
 -- A verdict's refusal is the word's outcome.
-pub verdict-refused : (o : Outcome Word) (v : Verdict) (r : Refusal) → verdictOf v ≡ checked o → v ≡ Refused r
+pub verdict-refused : (o : Outcome Word) (v : Verdict) (r : Refusal) → verdictOf v ≡ dropValue o → v ≡ Refused r
     → o ≡ refused (numberOf r) (placeOf r)
-verdict-refused o v r h e = checked-refused o (sym (ap verdictOf e) ∙ h)
+verdict-refused o v r h e = drop-refused o (sym (ap verdictOf e) ∙ h)
 
-pub verdict-accepts : (word : List ℕ) (m : Memory) (v : Verdict) → verdictOf v ≡ checked (judgedWith word m)
+pub verdict-accepts : (word : List ℕ) (m : Memory) (v : Verdict) → verdictOf v ≡ dropValue (judgedWith word m)
     → v ≡ Accepted → Accepts word m
 verdict-accepts word m v h e =
-    let f = checked-accepted (judgedWith word m) (sym (ap verdictOf e) ∙ h) in
+    let f = drop-accepted (judgedWith word m) (sym (ap verdictOf e) ∙ h) in
     record { letters = f .0; judged-so = f .1 }
 
 -- The first word is refused, whatever the second is.
 pub first-refused : (word1 : List ℕ) (m1 : Memory) (word2 : List ℕ) (m2 : Memory) (v : Verdict) (r : Refusal)
-    → verdictOf v ≡ checked (judgedWith word1 m1) → v ≡ Refused r → Compared word1 m1 m1 word2 m2 m2 (First r)
+    → verdictOf v ≡ dropValue (judgedWith word1 m1) → v ≡ Refused r → Compared word1 m1 m1 word2 m2 m2 (First r)
 first-refused word1 m1 word2 m2 v r h e = go (judgedWith word2 m2) refl
   where
     so : judgedWith word1 m1 ≡ refused (numberOf r) (placeOf r)
@@ -71,7 +71,7 @@ first-refused word1 m1 word2 m2 v r h e = go (judgedWith word2 m2) refl
 
 -- The first word is accepted, and the second refused.
 pub second-refused : (word1 : List ℕ) (m1 : Memory) (word2 : List ℕ) (m2 : Memory) (v : Verdict) (r : Refusal)
-    → Accepts word1 m1 → verdictOf v ≡ checked (judgedWith word2 m2) → v ≡ Refused r
+    → Accepts word1 m1 → verdictOf v ≡ dropValue (judgedWith word2 m2) → v ≡ Refused r
     → Compared word1 m1 m1 word2 m2 m2 (Second r)
 second-refused word1 m1 word2 m2 v r f h e =
     let so = verdict-refused (judgedWith word2 m2) v r h e in
@@ -83,21 +83,21 @@ second-refused word1 m1 word2 m2 v r f h e =
 
 -- The bytes at the front of the buffer of an accepted word are its record.
 pub front-record : (word : List ℕ) (m m′ : Memory) (n : ℕ) (f : Accepts word m) → WordWritten word m m′ n
-    → (n ≡ length (recordOfWord (f .letters))) × (take n (m′ .buffer) ≡ recordOfWord (f .letters))
+    → (n ≡ length (encodeWord (f .letters))) × (take n (m′ .buffer) ≡ encodeWord (f .letters))
 front-record word m m′ n f w =
     let v = f .letters in
     let so = f .judged-so in
     let fit = accepted-record word (length (m .b)) (length (m .a)) (length (m .buffer)) v so in
-    let count : n ≡ length (recordOfWord v) =
-    accepted-same (w .result ∙ ap (λ (o : Outcome Word). recorded o) so) in
-    let fits : 0 + length (recordOfWord v) ≤ length (m .buffer) =
+    let count : n ≡ length (encodeWord v) =
+    accepted-same (w .result ∙ ap (λ (o : Outcome Word). countRecord o) so) in
+    let fits : 0 + length (encodeWord v) ≤ length (m .buffer) =
     omega (arith, encode-size (formOf v), form-sum v, fit .roomy, read-length word v (fit .fit .reads)) in (
       count,
       ap (take n)
           (w .leaves .bytes
           ∙ ap (λ (o : Outcome Word). bufferAfter o (m .buffer)) so
-          ∙ sets-eq (recordOfWord v) (m .buffer) 0 fits)
-          ∙ take-at (recordOfWord v) _ n (sym count),
+          ∙ sets-eq (encodeWord v) (m .buffer) 0 fits)
+          ∙ take-at (encodeWord v) _ n (sym count),
     )
 
 -- `sameBytes` says whether two lists are the same.
@@ -121,16 +121,16 @@ bytes-same (x ∷ s) = ap (λ (p : Bool). cond p (sameBytes s s) false) (eq-eqb 
 -- Both words are accepted and written.
 module _ (word1 : List ℕ) (m1 m1′ : Memory) (word2 : List ℕ) (m2 m2′ : Memory) (f1 : Accepts word1 m1)
     (f2 : Accepts word2 m2) (r : Bool) (w : TwoWritten word1 m1 m1′ word2 m2 m2′ r) where
-  agree : r ≡ sameBytes (recordOfWord (f1 .letters)) (recordOfWord (f2 .letters))
-  agree = go r refl (sameBytes (recordOfWord (f1 .letters)) (recordOfWord (f2 .letters))) refl
+  agree : r ≡ sameBytes (encodeWord (f1 .letters)) (encodeWord (f2 .letters))
+  agree = go r refl (sameBytes (encodeWord (f1 .letters)) (encodeWord (f2 .letters))) refl
     where
-      one : take (w .first) (m1′ .buffer) ≡ recordOfWord (f1 .letters)
+      one : take (w .first) (m1′ .buffer) ≡ encodeWord (f1 .letters)
       one = front-record word1 m1 m1′ (w .first) f1 (w .written1) .1
 
-      two : take (w .second) (m2′ .buffer) ≡ recordOfWord (f2 .letters)
+      two : take (w .second) (m2′ .buffer) ≡ encodeWord (f2 .letters)
       two = front-record word2 m2 m2′ (w .second) f2 (w .written2) .1
 
-      go : (p : Bool) → r ≡ p → (q : Bool) → sameBytes (recordOfWord (f1 .letters)) (recordOfWord (f2 .letters)) ≡ q
+      go : (p : Bool) → r ≡ p → (q : Bool) → sameBytes (encodeWord (f1 .letters)) (encodeWord (f2 .letters)) ≡ q
           → p ≡ q
       go true e true k = refl
       go false e false k = refl
@@ -138,10 +138,10 @@ module _ (word1 : List ℕ) (m1 m1′ : Memory) (word2 : List ℕ) (m2 m2′ : M
           let eq = sym one ∙ w .says .same-if e ∙ two in
           sym
           (sym k
-          ∙ ap (λ (l : List ℕ). sameBytes (recordOfWord (f1 .letters)) l) (sym eq)
-          ∙ bytes-same (recordOfWord (f1 .letters)))
+          ∙ ap (λ (l : List ℕ). sameBytes (encodeWord (f1 .letters)) l) (sym eq)
+          ∙ bytes-same (encodeWord (f1 .letters)))
       go false e true k =
-          let eq = same-bytes (recordOfWord (f1 .letters)) (recordOfWord (f2 .letters)) k in
+          let eq = same-bytes (encodeWord (f1 .letters)) (encodeWord (f2 .letters)) k in
           sym e ∙ w .says .if-same (one ∙ eq ∙ sym two)
 
   pub both-written : (c : Comparison) → decisionOf c ≡ verdictBy r
@@ -160,13 +160,13 @@ module _ (word1 : List ℕ) (m1 m1′ : Memory) (word2 : List ℕ) (m2 m2′ : M
       own m m′ word left e = subst (λ (o : Outcome Word). Left o m m′) e left
 
 -- A refused word's call.
-pub refused-recorded : (word : List ℕ) (m : Memory) (v : Verdict) (r : Refusal) → verdictOf v ≡ checked (judgedWith
+pub refused-recorded : (word : List ℕ) (m : Memory) (v : Verdict) (r : Refusal) → verdictOf v ≡ dropValue (judgedWith
     word m)
     → v ≡ Refused r → Recorded word m m (NotWritten r)
 refused-recorded word m v r h e =
     let so = verdict-refused (judgedWith word m) v r h e in
     record {
-      result = sym (ap (λ (o : Outcome Word). recorded o) so);
+      result = sym (ap (λ (o : Outcome Word). countRecord o) so);
       leaves = left-kept (judgedWith word m) (numberOf r) (placeOf r) m so;
     }
 
@@ -190,7 +190,7 @@ scratch-ready-again f p q r = record {
   stack-length = r ∙ length-replicate {A = ℕ} room 0;
 }
 
-pub word-ready : (word : List ℕ) (m : Memory) (v : Verdict) → verdictOf v ≡ checked (judgedWith word m) → v ≡ Accepted
+pub word-ready : (word : List ℕ) (m : Memory) (v : Verdict) → verdictOf v ≡ dropValue (judgedWith word m) → v ≡ Accepted
     → Ready word m (replicate cells 0) (replicate cells 0) (replicate room 0)
 word-ready word m v h e = scratch-ready (verdict-accepts word m v h e)
 

@@ -11,8 +11,8 @@ use Rattle.group.specs.Limits.{limit}
 use Rattle.refusals.specs.declared.Verdict.{Verdict}
 use Rattle.refusals.specs.declared.Verdict.the-variants.{Accepted, Refused}
 use Rattle.refusals.specs.declared.Refusal.{Refusal}
-use Rattle.refusals.specs.Outcomes.{Outcome, accepted, refused, then, checked, refusal, verdictOf}
-use Rattle.refusals.proofs.Outcomes.{accepted-refused, passed, checked-accepted, checked-refused}
+use Rattle.refusals.specs.Outcomes.{Outcome, accepted, refused, then, dropValue, refusal, verdictOf}
+use Rattle.refusals.proofs.Outcomes.{accepted-refused, passed, drop-accepted, drop-refused}
 use Rattle.records.specs.Format.{bufferSize}
 use Rattle.forest.specs.Judging.{judged}
 use Rattle.forest.proofs.Judged.{Fit, accepted-fit}
@@ -50,28 +50,28 @@ module _ (word : List ℕ) (nb na nr : ℕ) where
           }
 
   -- The first judgement refused.
-  pub judge-refuses : (v : Verdict) (r : Refusal) → verdictOf v ≡ checked (judged word nb na) → v ≡ Refused r
-      → verdictOf v ≡ checked (judgedRecord word nb na nr)
+  pub judge-refuses : (v : Verdict) (r : Refusal) → verdictOf v ≡ dropValue (judged word nb na) → v ≡ Refused r
+      → verdictOf v ≡ dropValue (judgedRecord word nb na nr)
   judge-refuses v r h e =
-      let o = checked-refused (judged word nb na) (sym (ap verdictOf e) ∙ h) in
-      ap verdictOf e ∙ sym (ap (λ (p : Outcome Word). checked p) (judged-then (refusal r) o))
+      let o = drop-refused (judged word nb na) (sym (ap verdictOf e) ∙ h) in
+      ap verdictOf e ∙ sym (ap (λ (p : Outcome Word). dropValue p) (judged-then (refusal r) o))
 
   -- It accepted, and the number of letters is within the limit.
-  module _ (v : Verdict) (h : verdictOf v ≡ checked (judged word nb na)) (e : v ≡ Accepted) where
+  module _ (v : Verdict) (h : verdictOf v ≡ dropValue (judged word nb na)) (e : v ≡ Accepted) where
     found : (w : Word) × (judged word nb na ≡ accepted w)
-    found = checked-accepted (judged word nb na) (sym (ap verdictOf e) ∙ h)
+    found = drop-accepted (judged word nb na) (sym (ap verdictOf e) ∙ h)
 
     pub judge-within : length word ≤ limit
     judge-within = accepted-fit word nb na (found .0) (found .1) .short
 
-    pub judge-short : nr < bufferSize (length word) → refused 7 0 ≡ checked (judgedRecord word nb na nr)
+    pub judge-short : nr < bufferSize (length word) → refused 7 0 ≡ dropValue (judgedRecord word nb na nr)
     judge-short lt =
         sym
-        (ap (λ (p : Outcome Word). checked p) (judged-then (accepted (found .0)) (found .1))
+        (ap (λ (p : Outcome Word). dropValue p) (judged-then (accepted (found .0)) (found .1))
         ∙ simp (lt-ltb nr (bufferSize (length word)) lt))
 
-    pub judge-accepts : bufferSize (length word) ≤ nr → accepted 0 ≡ checked (judgedRecord word nb na nr)
+    pub judge-accepts : bufferSize (length word) ≤ nr → accepted 0 ≡ dropValue (judgedRecord word nb na nr)
     judge-accepts le =
         sym
-        (ap (λ (p : Outcome Word). checked p) (judged-then (accepted (found .0)) (found .1))
+        (ap (λ (p : Outcome Word). dropValue p) (judged-then (accepted (found .0)) (found .1))
         ∙ simp (le-ltb nr (bufferSize (length word)) le))

@@ -14,10 +14,10 @@ use Rattle.group.specs.Products.{formOf}
 use Rattle.group.specs.Limits.{limit}
 use Rattle.group.proofs.Bytes.{read-length}
 use Rattle.group.proofs.Sizes.{form-sum}
-use Rattle.refusals.specs.Outcomes.{Outcome, accepted, after, valued, checked}
+use Rattle.refusals.specs.Outcomes.{Outcome, accepted, after, valued, dropValue}
 use Rattle.refusals.proofs.Outcomes.{accepted-same, accepted-refused}
 use Rattle.records.specs.Format.{recordOf}
-use Rattle.records.specs.Contracts.{encodingOf, encoded, Encoded}
+use Rattle.records.specs.inside.Contracts.{encodingOf, encodeTables, Encoded}
 use Rattle.records.specs.declared.Encoding.{Encoding}
 use Rattle.records.specs.declared.Encoding.the-variants.{Bytes, Refused, Unfit}
 use Rattle.records.proofs.FormTables.{record-values}
@@ -25,8 +25,8 @@ use Rattle.records.proofs.Lengths.{encode-size}
 use Rattle.forest.specs.Filling.{cells, room, judgedIn, fillingOf, tableAfter, FilledTables}
 use Rattle.forest.specs.declared.Filling.{Filling}
 use Rattle.forest.specs.declared.Filling.the-variants.{Filled, Refused as NotFilled, Unfit as NoScratch}
-use Rattle.words.specs.Recording.{memory, recordOfWord, recorded, bufferAfter, Ready, WordWritten}
-use Rattle.words.specs.Recording.{bytesWritten, levelsRead}
+use Rattle.words.specs.Recording.{memory, encodeWord, countRecord, bufferAfter, Ready, WordWritten}
+use Rattle.words.specs.Recording.{bytesWritten, countLevels}
 use Rattle.words.proofs.Judged.{RecordFit, accepted-record}
 
 -- The number of bytes of a record, where it was written.
@@ -36,7 +36,7 @@ bytes-written (Refused r) n h = absurd (accepted-refused (sym h))
 bytes-written Unfit n h = absurd (accepted-refused (sym h))
 
 -- The number of levels read, where the tables were filled.
-filled-count : (f : Filling) → fillingOf f ≡ accepted 0 → f ≡ Filled (levelsRead f)
+filled-count : (f : Filling) → fillingOf f ≡ accepted 0 → f ≡ Filled (countLevels f)
 filled-count (Filled n) h = refl
 filled-count (NotFilled r) h = absurd (accepted-refused (sym h))
 filled-count NoScratch h = absurd (accepted-refused (sym h))
@@ -64,10 +64,10 @@ module _ {word b a buffer lefts rights stack : List ℕ} (h : Ready word (memory
   -- How many levels it read.
   pub engine-levels : {b′ a′ lefts′ rights′ stack′ : List ℕ} {f : Filling}
       → FilledTables word b a lefts rights stack b′ a′ lefts′ rights′ stack′ f
-      → (levels (formOf theWord) ≤ levelsRead f) × (levelsRead f ≤ length theWord + 1)
+      → (levels (formOf theWord) ≤ countLevels f) × (countLevels f ≤ length theWord + 1)
   engine-levels {b′} {a′} {lefts′} {rights′} {stack′} {f} t =
-      let so = t .result ∙ ap (λ (o : Outcome Word). checked o) engine-accepts in
-      t .levels-read (levelsRead f) (filled-count f so) theWord engine-accepts
+      let so = t .result ∙ ap (λ (o : Outcome Word). dropValue o) engine-accepts in
+      t .levels-read (countLevels f) (filled-count f so) theWord engine-accepts
 
   -- The table that the engine leaves.
   pub engine-table : (s : Side) (t t′ : List ℕ) → t′ ≡ tableAfter s (judgedIn word b a lefts rights stack) t
@@ -84,7 +84,7 @@ module _ {word b a buffer lefts rights stack : List ℕ} (h : Ready word (memory
         ap (take n) (engine-table s t t′ e)
         ∙ filled-front n (length theWord + 1) (exponent s (formOf theWord)) t most
 
-    pub front-record : recordOf (take n b′) (take n a′) ≡ recordOfWord theWord
+    pub front-record : recordOf (take n b′) (take n a′) ≡ encodeWord theWord
     front-record = ap₂ recordOf (front bSide b b′ eb) (front aSide a a′ ea) ∙ record-values (formOf theWord) n few
 
     front-length : (s : Side) (t t′ : List ℕ) → t′ ≡ tableAfter s (judgedIn word b a lefts rights stack) t
@@ -111,7 +111,7 @@ module _ {word b a buffer lefts rights stack : List ℕ} (h : Ready word (memory
         )
 
     -- The record writer takes them.
-    pub writer-accepts : encoded (take n b′) (take n a′) (length buffer) ≡ accepted (recordOfWord theWord)
+    pub writer-accepts : encodeTables (take n b′) (take n a′) (length buffer) ≡ accepted (encodeWord theWord)
     writer-accepts =
         simp (
           le-ltb (suc limit) (length (take n b′)) (front-length bSide b b′ eb),
@@ -126,10 +126,10 @@ module _ {word b a buffer lefts rights stack : List ℕ} (h : Ready word (memory
         → WordWritten word (memory b a buffer) (memory b′ a′ buffer′) k
     word-written buffer′ r k e w =
         let so = h .accepts .judged-so in
-        let count = e ∙ bytes-written r (length (recordOfWord theWord))
+        let count = e ∙ bytes-written r (length (encodeWord theWord))
         (w .result ∙ ap (λ (o : Outcome (List ℕ)). valued length o) writer-accepts) in
         record {
-          result = ap accepted count ∙ sym (ap (λ (o : Outcome Word). recorded o) so);
+          result = ap accepted count ∙ sym (ap (λ (o : Outcome Word). countRecord o) so);
           leaves = record {
             b-table = engine-table bSide b b′ eb ∙ sym (ap (λ (o : Outcome Word). tableAfter bSide o b) so);
             a-table = engine-table aSide a a′ ea ∙ sym (ap (λ (o : Outcome Word). tableAfter aSide o a) so);

@@ -13,7 +13,7 @@ use Rattle.refusals.specs.Refusals.{numberOf, placeOf}
 use Rattle.refusals.specs.Outcomes.{Outcome, accepted, refused}
 use Rattle.words.specs.declared.Comparison.{Comparison}
 use Rattle.words.specs.declared.Comparison.the-variants.{Same, Different, First, Second}
-use Rattle.words.specs.Recording.{recordOfWord, Memory, judgedWith, Left, WordWritten}
+use Rattle.words.specs.Recording.{encodeWord, Memory, judgedWith, Left, WordWritten}
 
 -- What the call comes to.
 pub data Decision : Type 0 where
@@ -42,7 +42,7 @@ verdictBy equal = cond equal same different
 abbrev pub decided : Outcome Word → Outcome Word → Decision
 decided (refused number place) second = refusedWord 0 number place
 decided (accepted u) (refused number place) = refusedWord 1 number place
-decided (accepted u) (accepted v) = verdictBy (sameBytes (recordOfWord u) (recordOfWord v))
+decided (accepted u) (accepted v) = verdictBy (sameBytes (encodeWord u) (encodeWord v))
 
 -- A word's own outcome, where the other word is accepted too; else a refusal.
 abbrev pub beside : Outcome Word → Outcome Word → Outcome Word
@@ -62,7 +62,7 @@ Compared word1 entry1 exit1 word2 entry2 exit2 r =
     ComparedBy (judgedWith word1 entry1) (judgedWith word2 entry2) entry1 exit1 entry2 exit2 r
 
 -- The answer says whether two lists are the same.
-pub record SameBytes (s t : List ℕ) (r : Bool) : Type 0 where
+pub record SaysSame (s t : List ℕ) (r : Bool) : Type 0 where
   pub same-if : r ≡ true → s ≡ t
   pub if-same : s ≡ t → r ≡ true
 
@@ -73,4 +73,4 @@ pub record TwoWritten (word1 : List ℕ) (entry1 exit1 : Memory) (word2 : List �
   pub second : ℕ
   pub written1 : WordWritten word1 entry1 exit1 first
   pub written2 : WordWritten word2 entry2 exit2 second
-  pub says : SameBytes (take first (exit1 .buffer)) (take second (exit2 .buffer)) r
+  pub says : SaysSame (take first (exit1 .buffer)) (take second (exit2 .buffer)) r

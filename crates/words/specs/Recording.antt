@@ -24,8 +24,8 @@ use Rattle.forest.specs.declared.Filling.the-variants.{Filled, Refused as NotFi
 use Rattle.forest.specs.Filling.{cells, room, tableAfter}
 
 -- The record of a word.
-abbrev pub recordOfWord : Word → List ℕ
-recordOfWord w = encode (formOf w)
+abbrev pub encodeWord : Word → List ℕ
+encodeWord w = encode (formOf w)
 
 -- The word that bytes are, beside tables and a buffer of these lengths, or its refusal: 1, 2 and 6, then 7, by the
 -- number of letters as they were sent.
@@ -35,11 +35,11 @@ judgedRecord word nb na nr =
 
 -- The buffer at exit: the record at its front, everything beyond unchanged.
 abbrev pub bufferAfter : Outcome Word → List ℕ → List ℕ
-bufferAfter o buffer = after o buffer (λ w. sets buffer 0 (recordOfWord w))
+bufferAfter o buffer = after o buffer (λ w. sets buffer 0 (encodeWord w))
 
 -- The outcome of the call: the number of bytes of the record.
-abbrev pub recorded : Outcome Word → Outcome ℕ
-recorded o = valued (λ w. length (recordOfWord w)) o
+abbrev pub countRecord : Outcome Word → Outcome ℕ
+countRecord o = valued (λ w. length (encodeWord w)) o
 
 -- What is lent with one word, at entry or at exit: the b table, the a table and the record buffer.
 pub record Memory : Type 0 where
@@ -62,7 +62,7 @@ pub record Left (o : Outcome Word) (entry exit : Memory) : Type 0 where
 
 -- For every word and whatever is lent with it.
 pub record Recorded (word : List ℕ) (entry exit : Memory) (r : Written) : Type 0 where
-  pub result : writtenOf r ≡ recorded (judgedWith word entry)
+  pub result : writtenOf r ≡ countRecord (judgedWith word entry)
   pub leaves : Left (judgedWith word entry) entry exit
 
 -- The word is accepted beside its memory.
@@ -79,7 +79,7 @@ pub record Ready (word : List ℕ) (m : Memory) (lefts rights stack : List ℕ) 
 
 -- An accepted word was written: the answer is the number of bytes of its record.
 pub record WordWritten (word : List ℕ) (entry exit : Memory) (r : ℕ) : Type 0 where
-  pub result : accepted r ≡ recorded (judgedWith word entry)
+  pub result : accepted r ≡ countRecord (judgedWith word entry)
   pub leaves : Left (judgedWith word entry) entry exit
 
 -- The number of bytes of a record that was written.
@@ -89,7 +89,7 @@ bytesWritten (Refused r) = 0
 bytesWritten Unfit = 0
 
 -- The number of levels that the engine read.
-abbrev pub levelsRead : Filling → ℕ
-levelsRead (Filled n) = n
-levelsRead (NotFilled r) = 0
-levelsRead NoScratch = 0
+abbrev pub countLevels : Filling → ℕ
+countLevels (Filled n) = n
+countLevels (NotFilled r) = 0
+countLevels NoScratch = 0

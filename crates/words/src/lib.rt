@@ -1,6 +1,6 @@
 // Word to record, and two words: judged first, and nothing that was lent is touched on a refusal.
 ghost use mathlib.Core.Path.{_≡_};
-ghost use Rattle.refusals.specs.Outcomes.{verdictOf, checked};
+ghost use Rattle.refusals.specs.Outcomes.{verdictOf, dropValue};
 ghost use Rattle.words.specs.Recording.{judgedRecord, memory, Recorded};
 ghost use Rattle.words.specs.Comparing.{decisionOf, verdictBy, Compared};
 use refusals::Refusal;
@@ -19,7 +19,8 @@ pub enum Comparison {
 
 // Refusals 1, 2, 6 and 7, in this order; the lengths are those of the two tables and of the record buffer.
 pub fn judge(word: &[u8], b_length: usize, a_length: usize, record_length: usize) -> Verdict
-    ensures { λ r. ⌜ verdictOf r ≡ checked (judgedRecord (now (word .entry)) «b_length» «a_length» «record_length») ⌝ }
+    ensures { λ r. ⌜ verdictOf r ≡ dropValue (judgedRecord (now (word .entry)) «b_length» «a_length»
+        «record_length») ⌝ }
 {
     let verdict = forest::judge(word, b_length, a_length);
     let Verdict::Accepted = verdict else {

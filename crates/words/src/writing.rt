@@ -2,8 +2,8 @@
 ghost use mathlib.Core.Path.{_≡_};
 ghost use Prim.Native.Nat.{_≤_};
 ghost use lib.ListN.{length, take};
-ghost use Rattle.words.specs.Recording.{memory, bytesWritten, levelsRead, Accepts, Ready, WordWritten};
-ghost use Rattle.words.specs.Comparing.{SameBytes, TwoWritten};
+ghost use Rattle.words.specs.Recording.{memory, bytesWritten, countLevels, Accepts, Ready, WordWritten};
+ghost use Rattle.words.specs.Comparing.{SaysSame, TwoWritten};
 use forest::Filling;
 use records::Encoding;
 
@@ -20,7 +20,7 @@ fn bytes_written(encoding: Encoding) -> usize
 
 // The number of levels that the engine read.
 fn levels_read(filling: Filling) -> usize
-    ensures { λ r. ⌜ r ≡ levelsRead filling ⌝ }
+    ensures { λ r. ⌜ r ≡ countLevels filling ⌝ }
 {
     match filling {
         Filling::Filled(n) => n,
@@ -54,7 +54,7 @@ pub fn write_word(
 // Whether the first n bytes of one buffer are the first m of another.
 fn same_bytes(record1: &[u8], n: usize, record2: &[u8], m: usize) -> bool
     requires { ⌜ (n ≤ length (now record1)) × (m ≤ length (now record2)) ⌝ }
-    ensures { λ r. ⌜ SameBytes (take n (now (record1 .entry))) (take m (now (record2 .entry))) r ⌝ }
+    ensures { λ r. ⌜ SaysSame (take n (now (record1 .entry))) (take m (now (record2 .entry))) r ⌝ }
 {
     check::same(&record1[..n], &record2[..m])
 }

@@ -1,7 +1,7 @@
 -- `pair_length` meets its contract: a pair of few carets, or of any number. Assumes nothing.
 use mathlib.Core.Path.{_∙_}
 use borrow.Author.Needs.{needs}
-use Rattle.lengths.specs.Steps.{smallCarets}
+use Rattle.lengths.specs.inside.Steps.{smallCarets}
 use Rattle.lengths.proofs.PairLengths.{within-length, within-largest}
 use Rattle.lengths.proofs.pair_length.Statement.{statement}
 use Rattle.lengths.proofs.pair_length.Tie as tie

@@ -1,4 +1,4 @@
--- `cells::join` meets its contract: a merged leaf, or a new cell.
+-- `cells::join` meets its contract: a merged tip, or a new cell.
 -- Assumes nothing.
 use mathlib.Core.Logic.{inl, inr}
 use native.Mathlib.Omega.{arith}
@@ -9,7 +9,7 @@ use Rattle.forest.proofs.cells.join.Tie as tie
 use Rattle.forest.proofs.cells.join.Reads as reads
 use Rattle.forest.proofs.cells.join.Lts as lts
 
--- Where the branches are left, the caret is not taken away.
+-- Where the branches are left, the fork is not taken away.
 apart : (c : lts.Joined1 reads.Pre reads.Post) → Merges (c .before .args .left) (c .before .args .right) → ⊥
 apart c m = elim (c .if1 .came) [
   | inl w ↦ omega (arith, w .2 .left, m .2)

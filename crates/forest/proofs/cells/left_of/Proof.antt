@@ -1,7 +1,7 @@
 -- `cells::left_of` meets its contract.
 -- Assumes nothing.
 use borrow.Author.Needs.{needs}
-use Rattle.forest.proofs.Stored.{left-leaf, left-caret}
+use Rattle.forest.proofs.Stored.{left-tip, left-fork}
 use Rattle.forest.proofs.cells.left_of.Statement.{statement}
 use Rattle.forest.proofs.cells.left_of.Tie as tie
 
@@ -9,7 +9,7 @@ add-result : tie.Need-add-result
 add-result c = search needs
 
 returns : tie.Need-returns
-returns c = let g = c .before .before .args in left-leaf (g .lefts .now) (g .tree) (c .if1 .taken)
+returns c = let g = c .before .before .args in left-tip (g .lefts .now) (g .bush) (c .if1 .taken)
 
 wide-requires : tie.Need-wide-requires
 wide-requires c κs = search needs
@@ -24,7 +24,7 @@ returns-2 : tie.Need-returns-2
 returns-2 c =
     let g = c .before .before .before .before .args in
     let k = c .before .wide in
-    left-caret (g .lefts .now) (g .tree) (k .result) (c .before .before .if1 .left) (k .ensures)
+    left-fork (g .lefts .now) (g .bush) (k .result) (c .before .before .if1 .left) (k .ensures)
 
 pub left-of-spec : {M : Type 1} → statement M
 left-of-spec =

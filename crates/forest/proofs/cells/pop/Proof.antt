@@ -1,4 +1,4 @@
--- `cells::pop` meets its contract: the top of the stack, or a leaf.
+-- `cells::pop` meets its contract: the top of the stack, or a tip.
 -- Assumes nothing.
 use borrow.Author.Needs.{needs}
 use Rattle.forest.proofs.Stored.{pop-none, pop-some}

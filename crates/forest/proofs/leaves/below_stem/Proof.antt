@@ -1,27 +1,27 @@
--- `leaves::below_stem` meets its contract: the walk of `Descent`, with no tree behind; the code falls in each turn.
+-- `leaves::below_stem` meets its contract: the walk of `Descent`, with no bush behind; the code falls in each turn.
 -- Assumes nothing.
 use mathlib.Core.List.{[]}
 use native.Mathlib.Omega.{arith}
-use Rattle.forest.specs.Leaves.{StemPassed}
+use Rattle.forest.specs.inside.Leaves.{StemPassed}
 use Rattle.forest.proofs.Descent.{walk-starts, walk-stem}
 use Rattle.forest.proofs.leaves.below_stem.Statement.{statement}
 use Rattle.forest.proofs.leaves.below_stem.Tie as tie
 
 abbrev Inv-loop : tie.InvT-loop
-Inv-loop lefts rights tree height code₀ code = StemPassed lefts rights tree height code
+Inv-loop lefts rights bush height code₀ code = StemPassed lefts rights bush height code
 
 abbrev μ-loop : tie.MeasureT-loop
-μ-loop lefts rights tree height code₀ code = code
+μ-loop lefts rights bush height code₀ code = code
 
 returns : tie.Need-returns Inv-loop μ-loop
 returns c =
     let g = c .before .before .before .args in
-    walk-starts (g .lefts .now) (g .rights .now) (g .tree) (g .height)
+    walk-starts (g .lefts .now) (g .rights .now) (g .bush) (g .height)
 
 loop-holds : tie.Need-loop-holds Inv-loop μ-loop
 loop-holds c =
     let g = c .before .before .before .args in
-    walk-starts (g .lefts .now) (g .rights .now) (g .tree) (g .height)
+    walk-starts (g .lefts .now) (g .rights .now) (g .bush) (g .height)
 
 sub-next : tie.Need-sub-next Inv-loop μ-loop
 sub-next c = omega arith

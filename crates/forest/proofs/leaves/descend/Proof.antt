@@ -5,17 +5,17 @@ use mathlib.Core.List.{[]}
 use Prim.Native.Nat.{ℕ}
 use native.Mathlib.Omega.{arith}
 use lib.ListN.{getD}
-use Rattle.forest.specs.Leaves.{Walking}
+use Rattle.forest.specs.inside.Leaves.{Walking}
 use Rattle.forest.proofs.Descent.{Turn, standing-below, walk-turn, walk-more, walk-ends}
 use Rattle.forest.proofs.leaves.descend.Statement.{statement}
 use Rattle.forest.proofs.leaves.descend.Tie as tie
 
 abbrev Inv-loop : tie.InvT-loop
-Inv-loop lefts rights stack₀ tree low code₀ edges₀ height₀ stack code edges height =
-    Walking lefts rights stack₀ tree low stack code edges height
+Inv-loop lefts rights stack₀ bush low code₀ edges₀ height₀ stack code edges height =
+    Walking lefts rights stack₀ bush low stack code edges height
 
 abbrev μ-loop : tie.MeasureT-loop
-μ-loop lefts rights stack₀ tree low code₀ edges₀ height₀ stack code edges height = code
+μ-loop lefts rights stack₀ bush low code₀ edges₀ height₀ stack code edges height = code
 
 -- What a turn may use, at its start.
 turn : (c : tie.In-loop Inv-loop μ-loop)

@@ -1,4 +1,4 @@
--- `leaves::read_off` meets its contract: the two first trees go onto the stack, the levels are read, the rest is 0.
+-- `leaves::read_off` meets its contract: the two first bushes go onto the stack, the levels are read, the rest is 0.
 -- Assumes nothing.
 use native.Mathlib.Omega.{arith}
 use borrow.Author.Needs.{needs}
@@ -7,7 +7,7 @@ use Rattle.forest.proofs.Zeroing.{levels-tabled}
 use Rattle.forest.proofs.leaves.read_off.Statement.{statement}
 use Rattle.forest.proofs.leaves.read_off.Tie as tie
 
--- The start, seen from where the first tree goes onto the stack.
+-- The start, seen from where the first bush goes onto the stack.
 abbrev start : tie.After-push-arg → tie.Start
 start c =
     let at-slice-known = c .before .before .before in
@@ -22,8 +22,8 @@ push-requires-2 c κs =
     let asked = start (at-push .before) .pre in
     omega (arith, low-height (asked .0), at-push .push .ensures .high)
 
-read-leaves-requires : tie.Need-read-leaves-requires
-read-leaves-requires c κs =
+read-tips-requires : tie.Need-read-tips-requires
+read-tips-requires c κs =
     let at-push2 = c .before .before .before .before .before in
     let at-push = at-push2 .before .before .before .before in
     let asked = start (at-push .before) .pre in
@@ -54,11 +54,11 @@ returns c =
     let at-zero-rest2 = c .before .before in
     let at-zero-rest = at-zero-rest2 .before .before .before .before in
     let at-b-table = at-zero-rest .before .before .before .before .before in
-    let at-read-leaves = at-b-table .before .before .before in
-    let at-push2 = at-read-leaves .before .before .before .before .before .before in
+    let at-read-tips = at-b-table .before .before .before in
+    let at-push2 = at-read-tips .before .before .before .before .before .before in
     let at-push = at-push2 .before .before .before .before in
     let asked = start (at-push .before) .pre in
-    levels-tabled (asked .1) (at-read-leaves .read-leaves .ensures) (at-zero-rest .zero-rest .ensures)
+    levels-tabled (asked .1) (at-read-tips .read-tips .ensures) (at-zero-rest .zero-rest .ensures)
     (at-zero-rest2 .zero-rest2 .ensures)
 
 pub read-off-spec : {M : Type 1} → statement M
@@ -67,7 +67,7 @@ read-off-spec =
     (tie.spec
     push-requires
     push-requires-2
-    read-leaves-requires
+    read-tips-requires
     add-end
     zero-rest-requires
     zero-rest-requires-2

@@ -4,7 +4,7 @@ use mathlib.Core.Path.{_≡_, _∙_, refl}
 use Prim.Native.Nat.{_-_, _≤_}
 use native.Mathlib.Omega.{arith}
 use lib.ListN.{length, length-set}
-use Rattle.forest.specs.Leaves.{ZerosPut}
+use Rattle.forest.specs.inside.Leaves.{ZerosPut}
 use Rattle.forest.proofs.Zeroing.{zeros-none, zeros-more, zeros-ends}
 use Rattle.forest.proofs.leaves.zero_rest.Statement.{statement}
 use Rattle.forest.proofs.leaves.zero_rest.Tie as tie

@@ -5,7 +5,7 @@ use mathlib.Core.Bool.{false, cond}
 use Prim.Native.Nat.{_-_, _≤_}
 use native.Mathlib.Omega.{arith}
 use lib.ListN.{length, drop}
-use Rattle.forest.specs.Scanning.{allLetters}
+use Rattle.forest.specs.inside.Scanning.{allLetters}
 use Rattle.forest.proofs.Scanning.{good-more, good-none}
 use Rattle.forest.proofs.letters.all_letters.Statement.{statement}
 use Rattle.forest.proofs.letters.all_letters.Tie as tie

@@ -5,7 +5,7 @@ use Prim.Native.Nat.{_+_, _-_, _≤_}
 use native.Mathlib.Omega.{arith}
 use lib.ListN.{length, drop}
 use borrow.Author.Tests.{not-true, not-false}
-use Rattle.forest.specs.Scanning.{lettersInFront}
+use Rattle.forest.specs.inside.Scanning.{lettersInFront}
 use Rattle.forest.proofs.Scanning.{bad-here, bad-later, bad-none}
 use Rattle.forest.proofs.letters.first_bad.Statement.{statement}
 use Rattle.forest.proofs.letters.first_bad.Tie as tie

@@ -2,7 +2,7 @@
 -- Assumes nothing.
 use mathlib.Core.Path.{sym, ap}
 use borrow.Author.Needs.{needs}
-use Rattle.forest.specs.Moves.{stepLetter}
+use Rattle.forest.specs.inside.Moves.{stepLetter}
 use Rattle.forest.proofs.Moving.{as-letter, last-letter}
 use Rattle.forest.proofs.row.step.Statement.{statement}
 use Rattle.forest.proofs.row.step.Tie as tie

@@ -7,7 +7,7 @@ use lib.ListN.{length, drop, length-set}
 use lib.Seq.{sets}
 use borrow.Author.Needs.{needs}
 use Rattle.lengths.specs.Classes.{Class}
-use Rattle.lengths.specs.Steps.{classBytes}
+use Rattle.lengths.specs.inside.Steps.{classBytes}
 use Rattle.lengths.proofs.Sides.{side-hanging, side-room, side-small, side-next, side-falls, inner-written}
 use Rattle.lengths.proofs.Sides.{left-ready, left-classes, right-there, right-ready, right-classes, last-classes}
 use Prim.Native.Nat.{ℕ, _+_, _*_, _-_, _<_}

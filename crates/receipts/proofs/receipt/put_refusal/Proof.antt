@@ -7,7 +7,7 @@ use Rattle.lists.proofs.Writes.{write-then, wrote-same}
 use Rattle.lines.specs.Lines.{lineFeed}
 use Rattle.refusals.specs.Refusals.{numberOf}
 use Rattle.receipts.specs.Text.{decimal}
-use Rattle.receipts.specs.Steps.{numberThen}
+use Rattle.receipts.specs.inside.Steps.{numberThen}
 use Rattle.receipts.proofs.Rows.{write-field, number-end}
 use Rattle.receipts.proofs.receipt.put_refusal.Statement.{statement}
 use Rattle.receipts.proofs.receipt.put_refusal.Tie as tie

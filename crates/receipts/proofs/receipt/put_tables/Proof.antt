@@ -3,7 +3,7 @@ use mathlib.Core.Path.{ap, ap₂, _∙_}
 use Prim.Native.Nat.{ℕ}
 use borrow.Author.Needs.{needs}
 use Rattle.lists.proofs.Writes.{wrote-same}
-use Rattle.receipts.specs.Steps.{valueIn, recordRow}
+use Rattle.receipts.specs.inside.Steps.{valueIn, recordRow}
 use Rattle.receipts.proofs.receipt.put_tables.Statement.{statement}
 use Rattle.receipts.proofs.receipt.put_tables.Tie as tie
 

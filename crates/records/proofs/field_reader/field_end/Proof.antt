@@ -2,7 +2,7 @@
 use mathlib.Core.Path.{sym, ap, _∙_}
 use native.Mathlib.Omega.{arith}
 use borrow.Author.Needs.{needs}
-use Rattle.records.specs.FieldReading.{endOf}
+use Rattle.records.specs.inside.FieldReading.{endOf}
 use Rattle.records.proofs.FieldsAt.{field-opens}
 use Rattle.records.proofs.field_reader.field_end.Statement.{statement}
 use Rattle.records.proofs.field_reader.field_end.Tie as tie

@@ -44,8 +44,8 @@ use denote.Triple.Table.{entered, cited}
 use denote.Triple.Walked.{says, Stays, stay-none-slice, walkOf, goes-none-slice, Walks, ends-at, walked, walk-meets}
 use denote.Exit.{yes}
 use Rattle.records.specs.Format.{bTag, aTag}
-use Rattle.records.specs.Steps.{frameOf}
-use Rattle.records.specs.FieldReading.{framedBy}
+use Rattle.records.specs.inside.Steps.{frameOf}
+use Rattle.records.specs.inside.FieldReading.{framedBy}
 use Rattle.records.specs.declared.reading.Frame.{Frame}
 use Rattle.records.specs.declared.field_reader.Field.{Field}
 use Rattle.records.specs.declared.field_reader.FieldReader.{FieldReader}

@@ -3,7 +3,7 @@ use mathlib.Core.Path.{sym, ap, _∙_}
 use native.Mathlib.Omega.{arith}
 use Prim.Native.Nat.{_/_}
 use Rattle.records.specs.Reading.{entriesAt}
-use Rattle.records.specs.Steps.{scanOf}
+use Rattle.records.specs.inside.Steps.{scanOf}
 use Rattle.records.proofs.Frames.{Opened, frame-opens}
 use Rattle.records.proofs.Scans.{passed→proper}
 use Rattle.records.proofs.Fields.{fields-fault, fields-second}

@@ -2,7 +2,7 @@
 use mathlib.Core.Path.{ap, _∙_}
 use native.Mathlib.Omega.{arith}
 use Rattle.records.specs.Reading.{entriesAt}
-use Rattle.records.specs.Steps.{placed}
+use Rattle.records.specs.inside.Steps.{placePowers}
 use Rattle.records.proofs.Placing.{placed-filled}
 use Rattle.records.proofs.reading.fill_table.Statement.{statement}
 use Rattle.records.proofs.reading.fill_table.Tie as tie
@@ -30,7 +30,7 @@ returns c =
     let args = at-start .args in
     let powers = entriesAt (args .s .now) (args .start) (args .count) in
     at-place-powers .place-powers .ensures
-    ∙ ap (placed powers) (at-clear .clear .ensures)
+    ∙ ap (placePowers powers) (at-clear .clear .ensures)
     ∙ placed-filled powers (args .table .now) (at-start .pre .1 .1) (at-start .pre .1 .0)
 
 pub fill-table-spec : {M : Type 1} → statement M

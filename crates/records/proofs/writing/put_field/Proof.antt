@@ -7,7 +7,7 @@ use lib.ListN.{length, length-set}
 use borrow.Author.Needs.{needs}
 use Rattle.lists.proofs.Writes.{write-then, wrote-same}
 use Rattle.records.specs.Format.{powers, twoBytes}
-use Rattle.records.specs.Fields.{body}
+use Rattle.records.specs.inside.Fields.{encodeBody}
 use Rattle.records.proofs.Lengths.{entries-length, powers-most}
 use Rattle.records.proofs.writing.put_field.Statement.{statement}
 use Rattle.records.proofs.writing.put_field.Tie as tie
@@ -52,7 +52,7 @@ returns c =
     let put = c .before .before in
     let two = put .before .before .before .before in
     let entry = two .before .before .before .before in
-    let long : 4 * entry .args .count ≡ length (body (entry .args .table .now)) =
+    let long : 4 * entry .args .count ≡ length (encodeBody (entry .args .table .now)) =
     omega (arith, entries-length (powers 0 (entry .args .table .now))) in
     write-then
     {a = entry .args .tag ∷ []}

@@ -3,14 +3,14 @@ use Prim.Native.Nat.{_≤_}
 use native.Mathlib.Omega.{arith}
 use Rattle.group.specs.Limits.{limit}
 use Rattle.spelling.specs.Runs.{falling}
-use Rattle.spelling.specs.Steps.{entry, fallingRuns}
+use Rattle.spelling.specs.inside.Steps.{readExponent, fallingRuns}
 use Rattle.spelling.proofs.Rest.{falling-all, falling-next, falling-done}
 use Rattle.spelling.proofs.Rest.{Leads, leads-start, leads-more, leads-room, leads-done}
 use Rattle.spelling.proofs.counting.count_falling.Statement.{statement}
 use Rattle.spelling.proofs.counting.count_falling.Tie as tie
 
 abbrev Inv-loop : tie.InvT-loop
-Inv-loop a state₀ k₀ state k = (k ≤ limit) × Leads (falling (entry a) k) state (fallingRuns a) state₀
+Inv-loop a state₀ k₀ state k = (k ≤ limit) × Leads (falling (readExponent a) k) state (fallingRuns a) state₀
 
 abbrev μ-loop : tie.MeasureT-loop
 μ-loop a state₀ k₀ state k = k
@@ -30,7 +30,7 @@ shared-slice-read-power c = omega arith
 power-requires : tie.Need-power-requires Inv-loop μ-loop
 power-requires c κs =
     let turn = c .before .before in
-    let next = falling-next (entry (turn .before .before .args .a .now)) (turn .loop .k) (omega arith) in
+    let next = falling-next (readExponent (turn .before .before .args .a .now)) (turn .loop .k) (omega arith) in
     (omega arith, omega (arith, leads-room (turn .loop .inv .1) next))
 
 sub-k : tie.Need-sub-k Inv-loop μ-loop
@@ -42,13 +42,13 @@ loop-less c = omega arith
 loop-again : tie.Need-loop-again Inv-loop μ-loop
 loop-again c =
     let turn = c .before .before .before in
-    let next = falling-next (entry (turn .before .before .args .a .now)) (turn .loop .k) (omega arith) in
+    let next = falling-next (readExponent (turn .before .before .args .a .now)) (turn .loop .k) (omega arith) in
     (omega arith, leads-more (turn .loop .inv .1) next (c .power .ensures))
 
 returns : tie.Need-returns Inv-loop μ-loop
 returns c =
     leads-done (c .before .loop .inv .1)
-    (falling-done (entry (c .before .before .before .args .a .now)) (c .before .loop .k) (omega arith))
+    (falling-done (readExponent (c .before .before .before .args .a .now)) (c .before .loop .k) (omega arith))
 
 pub count-falling-spec : {M : Type 1} → statement M
 count-falling-spec =

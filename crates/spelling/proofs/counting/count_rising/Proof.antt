@@ -2,7 +2,7 @@
 use Prim.Native.Nat.{suc, _-_, _<_, _≤_}
 use native.Mathlib.Omega.{arith}
 use Rattle.group.specs.Limits.{limit}
-use Rattle.spelling.specs.Steps.{entry, risingRuns}
+use Rattle.spelling.specs.inside.Steps.{readExponent, risingRuns}
 use Rattle.spelling.proofs.Rest.{risingFrom, rising-all, rising-next, rising-done}
 use Rattle.spelling.proofs.Rest.{Leads, leads-start, leads-more, leads-room, leads-done}
 use Rattle.spelling.proofs.counting.count_rising.Statement.{statement}
@@ -10,7 +10,7 @@ use Rattle.spelling.proofs.counting.count_rising.Tie as tie
 
 abbrev Inv-loop : tie.InvT-loop
 Inv-loop b state₀ k₀ state k =
-    (0 < k) × (k ≤ suc limit) × Leads (risingFrom (entry b) limit k) state (risingRuns b) state₀
+    (0 < k) × (k ≤ suc limit) × Leads (risingFrom (readExponent b) limit k) state (risingRuns b) state₀
 
 abbrev μ-loop : tie.MeasureT-loop
 μ-loop b state₀ k₀ state k = suc limit - k
@@ -31,7 +31,7 @@ power-requires : tie.Need-power-requires Inv-loop μ-loop
 power-requires c κs =
     let turn = c .before .before in
     let table = turn .before .before .args .b .now in
-    let next = rising-next (entry table) limit (turn .loop .k) (omega arith) (omega arith) in
+    let next = rising-next (readExponent table) limit (turn .loop .k) (omega arith) (omega arith) in
     (omega arith, omega (arith, leads-room (turn .loop .inv .2) next))
 
 add-k : tie.Need-add-k Inv-loop μ-loop
@@ -44,13 +44,13 @@ loop-again : tie.Need-loop-again Inv-loop μ-loop
 loop-again c =
     let turn = c .before .before .before in
     let table = turn .before .before .args .b .now in
-    let next = rising-next (entry table) limit (turn .loop .k) (omega arith) (omega arith) in
+    let next = rising-next (readExponent table) limit (turn .loop .k) (omega arith) (omega arith) in
     (omega arith, omega arith, leads-more (turn .loop .inv .2) next (c .power .ensures))
 
 returns : tie.Need-returns Inv-loop μ-loop
 returns c =
     leads-done (c .before .loop .inv .2)
-    (rising-done (entry (c .before .before .before .args .b .now)) limit (c .before .loop .k) (omega arith))
+    (rising-done (readExponent (c .before .before .before .args .b .now)) limit (c .before .loop .k) (omega arith))
 
 pub count-rising-spec : {M : Type 1} → statement M
 count-rising-spec =

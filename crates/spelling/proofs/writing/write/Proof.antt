@@ -2,7 +2,7 @@
 use mathlib.Core.Path.{refl}
 use native.Mathlib.Omega.{arith}
 use borrow.Author.Needs.{needs}
-use Rattle.spelling.specs.Steps.{entry}
+use Rattle.spelling.specs.inside.Steps.{readExponent}
 use Rattle.spelling.proofs.WrittenRuns.{runs-then, spelt-wrote}
 use Rattle.spelling.proofs.Tables.{passed, passed-count, passed-top, passed-last}
 use Rattle.spelling.proofs.writing.write.Statement.{statement}
@@ -58,7 +58,7 @@ returns c =
     let rising = falling .before .before .before .before in
     let start = rising .before .before in
     let given = start .before .before .before .before .before in
-    spelt-wrote (entry (given .args .b .now) 0) (entry (given .args .a .now) 0) (start .new .ensures .0)
+    spelt-wrote (readExponent (given .args .b .now) 0) (readExponent (given .args .a .now) 0) (start .new .ensures .0)
     (start .new .ensures .1) (runs-then (rising .write-rising .ensures) (falling .write-falling .ensures))
     (put .put-turn .ensures)
 

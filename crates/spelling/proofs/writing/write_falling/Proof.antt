@@ -3,7 +3,7 @@ use Prim.Native.Nat.{_≤_}
 use native.Mathlib.Omega.{arith}
 use Rattle.group.specs.Limits.{limit}
 use Rattle.spelling.specs.Runs.{falling}
-use Rattle.spelling.specs.Steps.{entry, fallingRuns}
+use Rattle.spelling.specs.inside.Steps.{readExponent, fallingRuns}
 use Rattle.spelling.proofs.Rest.{falling-all, falling-next, falling-done, leads-room}
 use Rattle.spelling.proofs.WrittenRuns.{Puts, puts-start, puts-more, puts-done, puts-length}
 use Rattle.spelling.proofs.writing.write_falling.Statement.{statement}
@@ -11,7 +11,7 @@ use Rattle.spelling.proofs.writing.write_falling.Tie as tie
 
 abbrev Inv-loop : tie.InvT-loop
 Inv-loop a word₀ state₀ k₀ word state k =
-    (k ≤ limit) × Puts (falling (entry a) k) state word (fallingRuns a) state₀ word₀
+    (k ≤ limit) × Puts (falling (readExponent a) k) state word (fallingRuns a) state₀ word₀
 
 abbrev μ-loop : tie.MeasureT-loop
 μ-loop a word₀ state₀ k₀ word state k = k
@@ -32,7 +32,7 @@ write-requires : tie.Need-write-requires Inv-loop μ-loop
 write-requires c κs =
     let turn = c .before .before .before in
     let given = turn .before .before .before in
-    let next = falling-next (entry (given .args .a .now)) (turn .loop .k) (omega arith) in
+    let next = falling-next (readExponent (given .args .a .now)) (turn .loop .k) (omega arith) in
     let left = turn .loop .inv .1 in
     (omega arith, omega (arith, leads-room (left .leads) next, puts-length left, given .pre))
 
@@ -46,7 +46,7 @@ loop-again : tie.Need-loop-again Inv-loop μ-loop
 loop-again c =
     let put = c .before .before in
     let turn = put .before .before .before .before in
-    let next = falling-next (entry (turn .before .before .before .args .a .now)) (turn .loop .k) (omega arith) in
+    let next = falling-next (readExponent (turn .before .before .before .args .a .now)) (turn .loop .k) (omega arith) in
     (omega arith, puts-more (turn .loop .inv .1) next (put .write .ensures))
 
 same-length : tie.Need-same-length Inv-loop μ-loop
@@ -56,7 +56,7 @@ returns : tie.Need-returns Inv-loop μ-loop
 returns c =
     let turn = c .before in
     puts-done (turn .loop .inv .1)
-    (falling-done (entry (turn .before .before .before .args .a .now)) (turn .loop .k) (omega arith))
+    (falling-done (readExponent (turn .before .before .before .args .a .now)) (turn .loop .k) (omega arith))
 
 pub write-falling-spec : {M : Type 1} → statement M
 write-falling-spec =

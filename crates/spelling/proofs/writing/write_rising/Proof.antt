@@ -2,7 +2,7 @@
 use Prim.Native.Nat.{suc, _-_, _<_, _≤_}
 use native.Mathlib.Omega.{arith}
 use Rattle.group.specs.Limits.{limit}
-use Rattle.spelling.specs.Steps.{entry, risingRuns}
+use Rattle.spelling.specs.inside.Steps.{readExponent, risingRuns}
 use Rattle.spelling.proofs.Rest.{risingFrom, rising-all, rising-next, rising-done, leads-room}
 use Rattle.spelling.proofs.WrittenRuns.{Puts, puts-start, puts-more, puts-done, puts-length}
 use Rattle.spelling.proofs.writing.write_rising.Statement.{statement}
@@ -10,7 +10,7 @@ use Rattle.spelling.proofs.writing.write_rising.Tie as tie
 
 abbrev Inv-loop : tie.InvT-loop
 Inv-loop b word₀ state₀ k₀ word state k =
-    (0 < k) × (k ≤ suc limit) × Puts (risingFrom (entry b) limit k) state word (risingRuns b) state₀ word₀
+    (0 < k) × (k ≤ suc limit) × Puts (risingFrom (readExponent b) limit k) state word (risingRuns b) state₀ word₀
 
 abbrev μ-loop : tie.MeasureT-loop
 μ-loop b word₀ state₀ k₀ word state k = suc limit - k
@@ -31,7 +31,7 @@ write-requires : tie.Need-write-requires Inv-loop μ-loop
 write-requires c κs =
     let turn = c .before .before .before in
     let given = turn .before .before .before in
-    let next = rising-next (entry (given .args .b .now)) limit (turn .loop .k) (omega arith) (omega arith) in
+    let next = rising-next (readExponent (given .args .b .now)) limit (turn .loop .k) (omega arith) (omega arith) in
     let left = turn .loop .inv .2 in
     (omega arith, omega (arith, leads-room (left .leads) next, puts-length left, given .pre))
 
@@ -45,7 +45,8 @@ loop-again : tie.Need-loop-again Inv-loop μ-loop
 loop-again c =
     let put = c .before .before in
     let turn = put .before .before .before .before in
-    let next = rising-next (entry (turn .before .before .before .args .b .now)) limit (turn .loop .k) (omega arith)
+    let next =
+    rising-next (readExponent (turn .before .before .before .args .b .now)) limit (turn .loop .k) (omega arith)
     (omega arith) in
     (omega arith, omega arith, puts-more (turn .loop .inv .2) next (put .write .ensures))
 
@@ -56,7 +57,7 @@ returns : tie.Need-returns Inv-loop μ-loop
 returns c =
     let turn = c .before in
     puts-done (turn .loop .inv .2)
-    (rising-done (entry (turn .before .before .before .args .b .now)) limit (turn .loop .k) (omega arith))
+    (rising-done (readExponent (turn .before .before .before .args .b .now)) limit (turn .loop .k) (omega arith))
 
 pub write-rising-spec : {M : Type 1} → statement M
 write-rising-spec =

@@ -1,6 +1,6 @@
 -- `used` meets its contract: the entries from i on are 0. Assumes nothing.
 use native.Mathlib.Omega.{arith}
-use Rattle.trees.specs.Steps.{Unused}
+use Rattle.trees.specs.inside.Steps.{Unused}
 use Rattle.trees.proofs.Counting.{unused-start, unused-more, unused-all}
 use Rattle.trees.proofs.count.used.Statement.{statement}
 use Rattle.trees.proofs.count.used.Tie as tie

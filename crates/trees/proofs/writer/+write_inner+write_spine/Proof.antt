@@ -5,7 +5,7 @@ use native.Mathlib.Omega.{arith}
 use lib.ListN.{length, drop, length-set}
 use borrow.Author.Needs.{needs}
 use Rattle.lists.proofs.Writes.{wrote-same, write-rest}
-use Rattle.trees.specs.Writing.{nodesFrom}
+use Rattle.trees.specs.inside.Writing.{nodesFrom}
 use Rattle.trees.proofs.WriteSteps.{nodes-end, spine-length, spine-room, spine-wrote, last-length, rest-room}
 use Prim.Native.Nat.{ℕ, _<_}
 use borrow.Fn.Kinds.{In}

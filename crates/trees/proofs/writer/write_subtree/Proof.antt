@@ -4,7 +4,7 @@ use Prim.Native.Nat.{ℕ, _-_}
 use native.Mathlib.Omega.{arith}
 use lib.ListN.{length, drop}
 use Rattle.lists.proofs.Writes.{writing-same, writing-length}
-use Rattle.trees.specs.Writing.{nodesFrom}
+use Rattle.trees.specs.inside.Writing.{nodesFrom}
 use Rattle.trees.proofs.WriteSteps.{Pending, own-length, pending-start, pending-bound}
 use Rattle.trees.proofs.WriteSteps.{pending-more, leaf-room}
 use Rattle.trees.proofs.writer.write_subtree.Statement.{statement}

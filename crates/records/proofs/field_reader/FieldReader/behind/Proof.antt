@@ -34,7 +34,7 @@ use denote.Triple.Statement.{Contract, Triple}
 use denote.Triple.Call.{calls-at}
 use denote.Triple.Spec.{Meets, tripleOf}
 use denote.Triple.Table.{entered, cited}
-use Rattle.records.specs.FieldReading.{fieldEnd}
+use Rattle.records.specs.inside.FieldReading.{fieldEnd}
 use Rattle.records.specs.declared.field_reader.FieldReader.{FieldReader}
 use Rattle.records.proofs.ReturnedCalls.{answers}
 use Rattle.records.proofs.ReaderParts as RP

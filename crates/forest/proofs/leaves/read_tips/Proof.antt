@@ -1,4 +1,4 @@
--- `leaves::read_leaves` meets its contract: the loop of `Emitting`, one entry of each table in a turn.
+-- `leaves::read_tips` meets its contract: the loop of `Emitting`, one entry of each table in a turn.
 -- Assumes nothing.
 use mathlib.Core.Path.{_≡_, refl}
 use Prim.Native.Nat.{_+_, _-_}
@@ -6,8 +6,8 @@ use native.Mathlib.Omega.{arith}
 use lib.ListN.{length}
 use Rattle.forest.proofs.Emitting.{Emitting, emit-starts, emit-height, emit-standing, emit-more}
 use Rattle.forest.proofs.Emitting.{emit-empty, emit-ends}
-use Rattle.forest.proofs.leaves.read_leaves.Statement.{statement}
-use Rattle.forest.proofs.leaves.read_leaves.Tie as tie
+use Rattle.forest.proofs.leaves.read_tips.Statement.{statement}
+use Rattle.forest.proofs.leaves.read_tips.Tie as tie
 
 abbrev Inv-loop : tie.InvT-loop
 Inv-loop word low lefts rights stack₀ b₀ a₀ n height₀ i₀ stack b a height i =
@@ -43,7 +43,7 @@ descend-requires c κs =
     let at-slice-known = at-loop .before .before .before in
     let sizes = at-slice-known .before .before .before .before .pre .0 .scratch in
     let p = at-pop .pop in
-    emit-standing (at-loop .loop .inv .1) (p .result .tree) (p .result .height) (sizes .lefts-length)
+    emit-standing (at-loop .loop .inv .1) (p .result .bush) (p .result .height) (sizes .lefts-length)
     (sizes .rights-length) (p .ensures)
 
 mul-b-table : tie.Need-mul-b-table Inv-loop μ-loop
@@ -74,10 +74,10 @@ loop-again c =
     let inv = at-loop .loop .inv in
     let p = at-pop .pop in
     let d = at-descend .descend in
-    let leaf = d .result in (
+    let tip = d .result in (
       inv .0,
-      emit-more (inv .1) (p .result .tree) (p .result .height) (d .last .1 .1 .0) (leaf .edges) (leaf .exponent)
-          (leaf .height) (omega arith) (asked .1) (d .kept .1 .1 .0) (p .ensures) (d .ensures),
+      emit-more (inv .1) (p .result .bush) (p .result .height) (d .last .1 .1 .0) (tip .edges) (tip .exponent)
+          (tip .height) (omega arith) (asked .1) (d .kept .1 .1 .0) (p .ensures) (d .ensures),
     )
 
 same-length-4 : tie.Need-same-length-4 Inv-loop μ-loop
@@ -92,8 +92,8 @@ same-length-6 c = c .before .loop .inv .1 .a-length
 returns-2 : tie.Need-returns-2 Inv-loop μ-loop
 returns-2 c = emit-ends (c .before .loop .inv .1) (omega arith)
 
-pub read-leaves-spec : {M : Type 1} → statement M
-read-leaves-spec =
+pub read-tips-spec : {M : Type 1} → statement M
+read-tips-spec =
     tie.close
     (tie.spec
     Inv-loop

@@ -8,7 +8,7 @@ use lib.Dec.{eqb, ltb}
 use Rattle.group.specs.Forms.{bSide, aSide, Form, exponent}
 use Rattle.lists.specs.Tables.{filled}
 use Rattle.group.specs.Limits.{limit}
-use Rattle.refusals.specs.Outcomes.{Outcome, accepted, refused, then, verdictOf, checked}
+use Rattle.refusals.specs.Outcomes.{Outcome, accepted, refused, then, verdictOf, dropValue}
 use Rattle.refusals.specs.declared.Verdict.{Verdict}
 use Rattle.records.specs.declared.reading.Frame.{Frame}
 use Rattle.records.specs.declared.reading.Frame.the-variants.{Exact, Broken}
@@ -16,7 +16,7 @@ use Rattle.records.specs.declared.reading.Scan.{Scan}
 use Rattle.records.specs.declared.reading.Scan.the-variants.{Sum, Fault}
 use Rattle.records.specs.Format.{Power, power}
 use Rattle.records.specs.Reading.{bLength, aLength, aStart, frames, both, scan}
-use Rattle.records.specs.Reading.{bPowers, aPowers, exponentAt, firstBreak}
+use Rattle.records.specs.Reading.{bPowers, aPowers, exponentAt, findBreak}
 
 -- The lengths of the bodies where the fields frame the bytes.
 abbrev pub frameOf : List ℕ → Frame
@@ -43,9 +43,9 @@ pub record Ordered (s : List ℕ) (b a : ℕ) : Type 0 where
   pub a-proper : Proper 0 (aPowers s)
 
 -- Powers put into a table, each at its index.
-abbrev pub placed : List Power → List ℕ → List ℕ
-placed [] t = t
-placed (power i e ∷ ps) t = placed ps (set t i e)
+abbrev pub placePowers : List Power → List ℕ → List ℕ
+placePowers [] t = t
+placePowers (power i e ∷ ps) t = placePowers ps (set t i e)
 
 -- The test of the reduced form's clause, on the exponents of an index and the next.
 abbrev pub isBreak : (b a b′ a′ : ℕ) → Bool
@@ -57,7 +57,7 @@ Shown f b a = (i : ℕ) → i ≤ suc limit → (getD b i 0 ≡ exponent bSide f
 
 -- The clause was tested for each form that the tables show.
 abbrev pub BreakFound : List ℕ → List ℕ → Verdict → Type 0
-BreakFound b a r = (f : Form) → Shown f b a → verdictOf r ≡ checked (firstBreak f 0 (suc limit))
+BreakFound b a r = (f : Form) → Shown f b a → verdictOf r ≡ dropValue (findBreak f 0 (suc limit))
 
 -- Both tables hold the exponents of the fields by index, up to the limit; everything beyond is unchanged.
 pub record FieldsFilled (s b a b′ a′ : List ℕ) : Type 0 where

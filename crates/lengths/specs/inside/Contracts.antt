@@ -3,7 +3,7 @@ use mathlib.Core.List.{List}
 use Prim.Native.Nat.{ℕ}
 use Rattle.refusals.specs.Outcomes.{Outcome, accepted, refused, then}
 use Rattle.trees.specs.Building.{treeOf}
-use Rattle.trees.specs.Writing.{tableCarets}
+use Rattle.trees.specs.inside.Writing.{tableCarets}
 use Rattle.lengths.specs.declared.Length.{Length}
 use Rattle.lengths.specs.declared.Length.the-variants.{Letters, Unfit}
 use Rattle.lengths.specs.Weights.{pairLength}

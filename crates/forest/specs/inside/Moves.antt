@@ -9,8 +9,8 @@ use Rattle.group.specs.Letters.{Letter, 'a, 'A, 'b, 'B, Word}
 use Rattle.group.specs.Limits.{limit}
 use Rattle.forest.specs.declared.row.State.{State}
 use Rattle.forest.specs.Filling.{cells, room}
-use Rattle.forest.specs.Forest.{Row, row, moveRow, rowOf}
-use Rattle.forest.specs.Cells.{Stands, StackStands, Raisable}
+use Rattle.forest.specs.inside.Forest.{Row, row, moveRow, rowOfWord}
+use Rattle.forest.specs.inside.Cells.{Stands, StackStands, Raisable}
 
 -- How `step` treats a byte: as B where it is none of a, A, b. The engine runs on words only, whose bytes are letters.
 abbrev pub stepLetter : ℕ → Letter
@@ -28,7 +28,7 @@ Held lefts rights stack s (row x y ts) =
     × Stands lefts rights (s .used) y (s .second)
     × StackStands lefts rights (s .used) ts stack (s .height)
 
--- The trees that a letter may part can be parted.
+-- The bushes that a letter may part can be parted.
 abbrev pub RaisableRow : Row → Type 0
 RaisableRow (row x y ts) = Raisable x × Raisable y
 
@@ -60,4 +60,4 @@ pub record Scratch (word lefts rights stack : List ℕ) : Type 0 where
 -- The scratch holds the row of the word.
 pub record Ran (word lefts rights stack : List ℕ) (s : State) : Type 0 where
   pub used-high : s .used ≤ cells
-  pub held : Held lefts rights stack s (rowOf (stepWord word))
+  pub held : Held lefts rights stack s (rowOfWord (stepWord word))

@@ -9,7 +9,7 @@ use lib.Seq.{sets}
 use Rattle.lists.specs.Tables.{filled}
 use Rattle.group.specs.Forms.{Side, bSide, aSide, Form, exponent}
 use Rattle.group.specs.Limits.{limit}
-use Rattle.refusals.specs.Outcomes.{Outcome, accepted, refused, after, then, valued, checked, refusal, verdictOf}
+use Rattle.refusals.specs.Outcomes.{Outcome, accepted, refused, after, then, valued, dropValue, refusal, verdictOf}
 use Rattle.refusals.specs.declared.Verdict.{Verdict}
 use Rattle.records.specs.declared.Encoding.{Encoding}
 use Rattle.records.specs.declared.Encoding.the-variants.{Bytes, Refused, Unfit}
@@ -24,16 +24,16 @@ encodingOf (Refused r) = refusal r
 encodingOf Unfit = refused 0 0
 
 -- The bytes of two tables' record, beside a buffer of the length n: tables with indices above the limit first, then 7.
-abbrev pub encoded : (b a : List ℕ) (n : ℕ) → Outcome (List ℕ)
-encoded b a n =
+abbrev pub encodeTables : (b a : List ℕ) (n : ℕ) → Outcome (List ℕ)
+encodeTables b a n =
     cond (ltb (suc limit) (length b)) (refused 0 0)
     (cond (ltb (suc limit) (length a)) (refused 0 0)
     (cond (ltb n (length (recordOf b a))) (refused 7 0) (accepted (recordOf b a))))
 
 -- The record of two tables was written at the front of the buffer, and nothing else.
 pub record Encoded (b a buffer buffer′ : List ℕ) (r : Encoding) : Type 0 where
-  pub result : encodingOf r ≡ valued length (encoded b a (length buffer))
-  pub bytes : buffer′ ≡ after (encoded b a (length buffer)) buffer (λ bytes. sets buffer 0 bytes)
+  pub result : encodingOf r ≡ valued length (encodeTables b a (length buffer))
+  pub bytes : buffer′ ≡ after (encodeTables b a (length buffer)) buffer (λ bytes. sets buffer 0 bytes)
 
 -- The form of a record, beside two tables of the lengths nb and na: 3, 4 and 5, then 6. Each table needs an entry for
 -- every index up to the limit.
@@ -49,6 +49,6 @@ tableRead s o t = after o t (λ f. filled (suc limit) (exponent s f) t)
 -- The exponents of a record were written into the two tables. What is lent as a record are bytes.
 pub record Decoded (s b a b′ a′ : List ℕ) (r : Verdict) : Type 0 where
   pub are-bytes : AreBytes s
-  pub result : verdictOf r ≡ checked (decodedIn s (length b) (length a))
+  pub result : verdictOf r ≡ dropValue (decodedIn s (length b) (length a))
   pub b-table : b′ ≡ tableRead bSide (decodedIn s (length b) (length a)) b
   pub a-table : a′ ≡ tableRead aSide (decodedIn s (length b) (length a)) a

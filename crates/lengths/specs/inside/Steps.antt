@@ -9,12 +9,12 @@ use mathlib.Core.List.{List, [], _∷_}
 use Prim.Native.Nat.{ℕ, zero, suc, _+_, _≤_, _<_}
 use lib.ListN.{length, take, drop}
 use lib.Dec.{ltb}
-use Rattle.lists.specs.Writes.{Writing}
+use Rattle.lists.specs.inside.Writes.{Writing}
 use Rattle.refusals.specs.Outcomes.{Outcome, accepted, refused, then}
 use Rattle.trees.specs.Building.{treeOf}
 use Rattle.trees.specs.Pairs.{maxCarets}
 use Rattle.trees.specs.Shapes.{shapeSize, Exact}
-use Rattle.trees.specs.Writing.{tableCarets}
+use Rattle.trees.specs.inside.Writing.{tableCarets}
 use Rattle.lengths.specs.declared.table.CaretKind.{CaretKind}
 use Rattle.lengths.specs.declared.table.CaretKind.the-variants as Named
 use Rattle.lengths.specs.declared.reader.Amid.{Amid}
@@ -23,7 +23,7 @@ use Rattle.lengths.specs.declared.sums.Behind.{Behind}
 use Rattle.lengths.specs.Classes.{Class, onLeft, onRight, insideLeaf, insideCaret}
 use Rattle.lengths.specs.Kinds.{Kind, LL, RI, RN, R0, I0, IR, inside, either}
 use Rattle.lengths.specs.Weights.{pairLength}
-use Rattle.lengths.specs.Reading.{classesFrom, nextOnSide, pendingClasses}
+use Rattle.lengths.specs.inside.Reading.{classesFrom, nextOnSide, pendingClasses}
 
 -- The byte of a class, and the class of a byte.
 abbrev pub classByte : Class → ℕ

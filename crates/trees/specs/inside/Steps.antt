@@ -5,16 +5,16 @@ use Prim.Native.Nat.{ℕ, _+_, _≤_, _<_}
 use lib.ListN.{length, drop, getD}
 use Rattle.lists.specs.Entries.{total}
 use Rattle.lists.specs.Tables.{filled}
-use Rattle.lists.specs.Writes.{Writing}
+use Rattle.lists.specs.inside.Writes.{Writing}
 use Rattle.trees.specs.declared.writer.Place.{Place}
 use Rattle.trees.specs.Building.{needed}
 use Rattle.trees.specs.Pairs.{maxCarets}
 use Rattle.trees.specs.Shapes.{shapeSize}
-use Rattle.trees.specs.Writing.{nodesFrom}
+use Rattle.trees.specs.inside.Writing.{nodesFrom}
 
 -- From leaf k of the exponents e on, with o interior subtrees to come, the nodes have room from a place on, in a shape
 -- of a tree that is not too large, and no more leaves than nodes stand before the place.
-pub record Room (e : List ℕ) (k o at : ℕ) (buffer : List ℕ) : Type 0 where
+pub record NodesFit (e : List ℕ) (k o at : ℕ) (buffer : List ℕ) : Type 0 where
   pub room : at + length (nodesFrom (drop k e) o) ≤ length buffer
   pub small : at + length (nodesFrom (drop k e) o) ≤ shapeSize maxCarets
   pub early : k ≤ at
@@ -26,7 +26,7 @@ pub record Partly (e : List ℕ) (k : ℕ) (entry : List ℕ) (at : ℕ) (exit :
   pub early : p .leaf .0 ≤ p .at
 
 -- A table, a number of carets that is enough for it, and a buffer with room for the shape.
-pub record Fits (e : List ℕ) (n : ℕ) (buffer : List ℕ) : Type 0 where
+pub record ShapeFits (e : List ℕ) (n : ℕ) (buffer : List ℕ) : Type 0 where
   pub entries : length e ≤ maxCarets
   pub enough : needed 0 e ≤ n
   pub small : n ≤ maxCarets

@@ -8,8 +8,8 @@ use Rattle.group.specs.Limits.{limit}
 use Rattle.records.specs.Format.{powers, entries}
 
 -- The entries of a table's exponents, those that are 0 left out.
-abbrev pub body : List ℕ → List ℕ
-body t = entries (powers 0 t)
+abbrev pub encodeBody : List ℕ → List ℕ
+encodeBody t = entries (powers 0 t)
 
 -- No index of the table is above the limit, and n of its exponents are not 0.
 pub record Counted (t : List ℕ) (n : ℕ) : Type 0 where

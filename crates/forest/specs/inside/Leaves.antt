@@ -1,4 +1,4 @@
--- What the functions of `leaves` promise: the leaves of a stored row are written into the tables. Assumes nothing.
+-- What the functions of `leaves` promise: the tips of a stored row are written into the tables. Assumes nothing.
 use mathlib.Core.Path.{_≡_}
 use mathlib.Core.List.{List}
 use Prim.Native.Nat.{ℕ, _+_, _-_, _≤_}
@@ -8,55 +8,55 @@ use Rattle.group.specs.Forms.{Side, bSide, aSide, exponent, levels}
 use Rattle.group.specs.Products.{formOf}
 use Rattle.forest.specs.declared.row.State.{State}
 use Rattle.forest.specs.Filling.{cells, room}
-use Rattle.forest.specs.Forest.{Tree, rowTrees, rowOf, leftEdges, leafExponent, treesBehind}
-use Rattle.forest.specs.Forest.{leaves, forestLeaves}
-use Rattle.forest.specs.Cells.{Stands, StackStands}
-use Rattle.forest.specs.Moves.{stepWord, Scratch, Ran}
+use Rattle.forest.specs.inside.Forest.{Bush, rowBushes, rowOfWord, tipEdges, tipExponent, bushesBehind}
+use Rattle.forest.specs.inside.Forest.{tips, forestTips}
+use Rattle.forest.specs.inside.Cells.{Stands, StackStands}
+use Rattle.forest.specs.inside.Moves.{stepWord, Scratch, Ran}
 
--- A code stands for a tree and the stack for the trees behind it, and the stack has room for all their leaves.
+-- A code stands for a bush and the stack for the bushes behind it, and the stack has room for all their tips.
 pub record Standing (lefts rights stack : List ℕ) (code height : ℕ) : Type 0 where
   pub lefts-length : length lefts ≡ cells
   pub rights-length : length rights ≡ cells
   pub stack-length : length stack ≡ room
-  pub tree : Tree
-  pub behind : List Tree
-  pub stands : Stands lefts rights cells tree code
+  pub bush : Bush
+  pub behind : List Bush
+  pub stands : Stands lefts rights cells bush code
   pub stack-stands : StackStands lefts rights cells behind stack height
-  pub few : leaves tree + forestLeaves behind ≤ room
+  pub few : tips bush + forestTips behind ≤ room
 
--- The first leaf of the tree was read, and the stack holds the trees behind it.
-abbrev pub LeafRead : (lefts rights stack : List ℕ) (code height : ℕ) (stack′ : List ℕ) (edges exponent height′ : ℕ)
+-- The first tip of the bush was read, and the stack holds the bushes behind it.
+abbrev pub TipRead : (lefts rights stack : List ℕ) (code height : ℕ) (stack′ : List ℕ) (edges exponent height′ : ℕ)
     → Type 0
-LeafRead lefts rights stack code height stack′ edges exponent height′ =
-    (t : Tree) (ts : List Tree)
+TipRead lefts rights stack code height stack′ edges exponent height′ =
+    (t : Bush) (ts : List Bush)
     → Stands lefts rights cells t code
     → StackStands lefts rights cells ts stack height
-    → (edges ≡ leftEdges t)
-    × (exponent ≡ leafExponent t)
-    × StackStands lefts rights cells (treesBehind t ts) stack′ height′
+    → (edges ≡ tipEdges t)
+    × (exponent ≡ tipExponent t)
+    × StackStands lefts rights cells (bushesBehind t ts) stack′ height′
 
--- The tree u, in front of the trees us, is left of t in front of ts, `edges` left edges down.
-pub record Below (t : Tree) (ts : List Tree) (u : Tree) (us : List Tree) (edges : ℕ) : Type 0 where
-  pub to-edges : edges + leftEdges u ≡ leftEdges t
-  pub to-exponent : leafExponent u ≡ leafExponent t
-  pub to-behind : treesBehind u us ≡ treesBehind t ts
-  pub to-leaves : leaves u + forestLeaves us ≤ leaves t + forestLeaves ts
+-- The bush u, in front of the bushes us, is left of t in front of ts, `edges` left edges down.
+pub record DownLeft (t : Bush) (ts : List Bush) (u : Bush) (us : List Bush) (edges : ℕ) : Type 0 where
+  pub to-edges : edges + tipEdges u ≡ tipEdges t
+  pub to-exponent : tipExponent u ≡ tipExponent t
+  pub to-behind : bushesBehind u us ≡ bushesBehind t ts
+  pub to-tips : tips u + forestTips us ≤ tips t + forestTips ts
 
--- The code stands for such a tree, and the stack for the trees behind it.
-pub record Walked (lefts rights : List ℕ) (t : Tree) (ts : List Tree) (stack : List ℕ) (code edges height : ℕ)
+-- The code stands for such a bush, and the stack for the bushes behind it.
+pub record Walked (lefts rights : List ℕ) (t : Bush) (ts : List Bush) (stack : List ℕ) (code edges height : ℕ)
     : Type 0 where
-  pub tree : Tree
-  pub behind : List Tree
-  pub stands : Stands lefts rights cells tree code
+  pub bush : Bush
+  pub behind : List Bush
+  pub stands : Stands lefts rights cells bush code
   pub stack-stands : StackStands lefts rights cells behind stack height
-  pub below : Below t ts tree behind edges
+  pub below : DownLeft t ts bush behind edges
 
--- So it is for each tree that `whole` stands for; the code falls as the edges grow.
+-- So it is for each bush that `whole` stands for; the code falls as the edges grow.
 pub record Walking (lefts rights stack₀ : List ℕ) (whole low : ℕ) (stack : List ℕ) (code edges height : ℕ)
     : Type 0 where
   pub same : length stack ≡ length stack₀
   pub falls : edges + code ≤ whole
-  pub walked : (t : Tree) (ts : List Tree) → Stands lefts rights cells t whole
+  pub walked : (t : Bush) (ts : List Bush) → Stands lefts rights cells t whole
       → StackStands lefts rights cells ts stack₀ low → Walked lefts rights t ts stack code edges height
 
 -- The same of a code as many left edges down as it is lower, with the stack as it was.
@@ -69,14 +69,14 @@ pub record Ended (word lefts rights stack : List ℕ) (s : State) : Type 0 where
   pub scratch : Scratch word lefts rights stack
   pub ran : Ran word lefts rights stack s
 
--- The trees of the row of bytes, from the left.
-abbrev pub treesOf : List ℕ → List Tree
-treesOf word = rowTrees (rowOf (stepWord word))
+-- The bushes of the row of bytes, from the left.
+abbrev pub bushesOf : List ℕ → List Bush
+bushesOf word = rowBushes (rowOfWord (stepWord word))
 
--- The scratch, with all these trees on the stack.
+-- The scratch, with all these bushes on the stack.
 pub record Piled (word lefts rights stack : List ℕ) (height : ℕ) : Type 0 where
   pub scratch : Scratch word lefts rights stack
-  pub stack-stands : StackStands lefts rights cells (treesOf word) stack height
+  pub stack-stands : StackStands lefts rights cells (bushesOf word) stack height
 
 -- Tables with an entry for each index up to the number of letters.
 pub record LongTables (word b a : List ℕ) : Type 0 where

@@ -35,19 +35,19 @@ pub record WroteRuns (l : List Run) (s : Speller) (word word′ : List ℕ) (r :
   pub bytes : word′ ≡ sets word (s .count) (bytesOf (runLetters (s .due) l))
 
 -- The exponents of a table by index.
-abbrev pub entry : List ℕ → ℕ → ℕ
-entry t i = getD t i 0
+abbrev pub readExponent : List ℕ → ℕ → ℕ
+readExponent t i = getD t i 0
 
 -- The runs of a table's exponents of the indices 1 to the limit: rising for the b side, falling for the a side.
 unfoldable pub risingRuns : List ℕ → List Run
-risingRuns b = rising (entry b) 0 limit
+risingRuns b = rising (readExponent b) 0 limit
 
 unfoldable pub fallingRuns : List ℕ → List Run
-fallingRuns a = falling (entry a) limit
+fallingRuns a = falling (readExponent a) limit
 
 -- The word of two tables of exponents, and the number of its letters.
 abbrev pub tableSpelling : List ℕ → List ℕ → Word
-tableSpelling b a = spelt (entry b 0) (risingRuns b ++ fallingRuns a) (entry a 0)
+tableSpelling b a = spelt (readExponent b 0) (risingRuns b ++ fallingRuns a) (readExponent a 0)
 
 abbrev pub tableLetters : List ℕ → List ℕ → ℕ
-tableLetters b a = lettersFrom (entry b 0) (risingRuns b ++ fallingRuns a) (entry a 0)
+tableLetters b a = lettersFrom (readExponent b 0) (risingRuns b ++ fallingRuns a) (readExponent a 0)

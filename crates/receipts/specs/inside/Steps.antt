@@ -5,11 +5,11 @@ use lib.ListN.{length}
 use Rattle.group.specs.Limits.{limit}
 use Rattle.refusals.specs.Outcomes.{Outcome, accepted, refused}
 use Rattle.records.specs.Format.{bufferSize}
-use Rattle.trees.specs.Writing.{tableCarets}
-use Rattle.lengths.specs.Contracts.{tableLength}
+use Rattle.trees.specs.inside.Writing.{tableCarets}
+use Rattle.lengths.specs.inside.Contracts.{tableLength}
 use Rattle.words.specs.Recording.{Memory}
 use Rattle.receipts.specs.Text.{decimal, hexOf}
-use Rattle.receipts.specs.Receipts.{row}
+use Rattle.receipts.specs.Receipts.{joinFields}
 
 -- The value of an outcome; 0 where there is none.
 abbrev pub valueIn : Outcome ℕ → ℕ
@@ -38,7 +38,7 @@ refusalSize = 3 * numberSize + 8
 
 -- The receipt of a record with four numbers.
 abbrev pub recordRow : (k l m n : ℕ) (bytes : List ℕ) → List ℕ
-recordRow k l m n bytes = row (decimal k ∷ decimal l ∷ decimal m ∷ decimal n ∷ hexOf bytes ∷ [])
+recordRow k l m n bytes = joinFields (decimal k ∷ decimal l ∷ decimal m ∷ decimal n ∷ hexOf bytes ∷ [])
 
 -- The receipt of two tables and a record.
 abbrev pub tablesRow : (number letters : ℕ) (b a bytes : List ℕ) → List ℕ

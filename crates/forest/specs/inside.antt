@@ -1,0 +1,7 @@
+-- The row of bushes, how it is stored, and what the private functions promise.
+-- Inside: no claim reaches these definitions; a reader of the claims need not believe them.
+pub mod Forest
+pub mod Cells
+pub mod Moves
+pub mod Leaves
+pub mod Scanning

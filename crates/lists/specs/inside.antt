@@ -1,0 +1,3 @@
+-- What a function wrote, for the contracts of private functions.
+-- Inside: no claim reaches these definitions; a reader of the claims need not believe them.
+pub mod Writes

@@ -1,0 +1,4 @@
+-- The shape writer's terms, and the steps of the functions.
+-- Inside: no claim reaches these definitions; a reader of the claims need not believe them.
+pub mod Writing
+pub mod Steps
