@@ -1,13 +1,10 @@
 -- The claims of specs/Records.antt, proved. Assumes nothing.
 use mathlib.Core.Path.{_≡_, refl, sym, _∙_}
-use mathlib.Core.List.{List}
-use Prim.Native.Nat.{ℕ}
 use Rattle.group.specs.Forms.{Form}
 use Rattle.refusals.specs.Outcomes.{Outcome, accepted, refused}
 use Rattle.refusals.proofs.Outcomes.{accepted-same, accepted-refused}
 use Rattle.records.specs.Format.{IsRecord}
 use Rattle.records.specs.Reading.{decode}
-use Rattle.records.specs.Faults.{Bytes}
 use Rattle.records.proofs.Accepted.{record-decoded, decoded↔record}
 use Rattle.claims.specs.Refusals.{RecordRefusal}
 use Rattle.claims.specs.Answers.{None}

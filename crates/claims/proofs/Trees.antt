@@ -7,7 +7,8 @@ use native.Mathlib.Numerals.{add-one}
 use native.Mathlib.Omega.{arith}
 use native.Mathlib.Decide.{decLt}
 use lib.ListN.{getD, List·getD-eq-default}
-use Rattle.lists.specs.Entries.{At, SameEntries}
+use Rattle.lists.specs.Entries.{At}
+use Rattle.lists.specs.inside.Entries.{SameEntries}
 use Rattle.lists.proofs.Entries.{at-same-list}
 use Rattle.group.specs.Forms.{Side, bSide, aSide, onSide, exponent, exponents}
 use Rattle.group.specs.Limits.{limit}

@@ -2,7 +2,7 @@
 use mathlib.Core.Path.{_≡_, sym, ap, ap₂, _∙_}
 use mathlib.Core.List.{List}
 use mathlib.Core.Logic.{_↔_}
-use Prim.Native.Nat.{ℕ, _+_, _<_, _≤_, min}
+use Prim.Native.Nat.{ℕ, _+_, _<_, _≤_}
 use native.Mathlib.Decide.{decLe}
 use native.Mathlib.Omega.{arith}
 use lib.ListN.{length, take, drop, getD, length-take}
@@ -30,7 +30,7 @@ use Rattle.records.proofs.Accepted.{decode-encode}
 use Rattle.records.proofs.Lengths.{encode-size}
 use Rattle.forest.specs.Filling.{tableAfter}
 use Rattle.words.specs.Recording.{Memory, memory, judgedWith, encodeWord, countRecord, bufferAfter, Left, Recorded}
-use Rattle.words.specs.Recording.{WordWritten}
+use Rattle.words.specs.inside.Writing.{WordWritten}
 use Rattle.words.proofs.Judged.{accepted-record}
 use Rattle.words.proofs.Compared.{front-record}
 use Rattle.claims.specs.Given.{RecordOfWord}

@@ -6,7 +6,7 @@ use Prim.Native.Nat.{ℕ, _+_, _-_, _≤_, _<_}
 use native.Mathlib.Omega.{arith}
 use lib.ListN.{getD, length}
 use Rattle.group.specs.Limits.{limit}
-use Rattle.forest.specs.Filling.{cells, room}
+use Rattle.forest.specs.inside.Filling.{cells, room}
 use Rattle.forest.specs.inside.Forest.{Bush, tip, fork, putBush, tipEdges, tipExponent, bushesBehind}
 use Rattle.forest.specs.inside.Forest.{tips, forestTips}
 use Rattle.forest.specs.inside.Cells.{Stands, StackStands, Pushed}

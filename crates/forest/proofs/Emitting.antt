@@ -12,7 +12,7 @@ use Rattle.group.specs.Forms.{Side, bSide, aSide, exponent}
 use Rattle.group.specs.Products.{formOf}
 use Rattle.group.specs.Limits.{limit}
 use Rattle.group.proofs.Sizes.{form-index}
-use Rattle.forest.specs.Filling.{cells, room}
+use Rattle.forest.specs.inside.Filling.{cells, room}
 use Rattle.forest.specs.inside.Forest.{Bush, firstBush, laterBushes, rowOfWord, tips, forestTips}
 use Rattle.forest.specs.inside.Cells.{StackStands, Popped}
 use Rattle.forest.specs.inside.Moves.{stepWord}

@@ -20,7 +20,8 @@ use Rattle.refusals.proofs.Outcomes.{accepted-refused, drop-accepted, drop-refu
 use Rattle.forest.specs.declared.Filling.{Filling}
 use Rattle.forest.specs.declared.Filling.the-variants.{Filled, Refused as NotFilled, Unfit}
 use Rattle.forest.specs.Judging.{judged}
-use Rattle.forest.specs.Filling.{cells, room, judgedIn, fillingOf, tableAfter, FilledTables}
+use Rattle.forest.specs.Filling.{tableAfter}
+use Rattle.forest.specs.inside.Filling.{cells, room, judgedIn, fillingOf, FilledTables}
 use Rattle.forest.specs.inside.Moves.{stepLetter, stepWord, Scratch}
 use Rattle.forest.specs.inside.Leaves.{LongTables, Tabled}
 use Rattle.forest.proofs.Judged.{accepted-fit}

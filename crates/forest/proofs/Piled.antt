@@ -6,7 +6,7 @@ use native.Mathlib.Omega.{arith}
 use lib.ListN.{length}
 use Rattle.group.specs.Limits.{limit}
 use Rattle.forest.specs.declared.row.State.{State}
-use Rattle.forest.specs.Filling.{cells}
+use Rattle.forest.specs.inside.Filling.{cells}
 use Rattle.forest.specs.inside.Forest.{putBush, Row, row, rowBushes, rowOfWord}
 use Rattle.forest.specs.inside.Cells.{StackStands, Pushed}
 use Rattle.forest.specs.inside.Moves.{stepWord, Held, Scratch, Ran}

@@ -9,7 +9,7 @@ use lib.Seq.{drop-cons, drop-length}
 use Rattle.group.specs.Letters.{Word}
 use Rattle.group.specs.Limits.{limit}
 use Rattle.forest.specs.declared.row.State.{State}
-use Rattle.forest.specs.Filling.{cells}
+use Rattle.forest.specs.inside.Filling.{cells}
 use Rattle.forest.specs.inside.Forest.{Bush, tip, fork, Row, row, rowOfWord}
 use Rattle.forest.specs.inside.Cells.{Raisable}
 use Rattle.forest.specs.inside.Moves.{stepLetter, stepWord, Held, RaisableRow, Ready, Moved, Scratch, Ran}

@@ -1,7 +1,8 @@
--- The row of bushes, how it is stored, and what the private functions promise.
+-- The row of bushes, how it is stored, what the private functions promise, and the contract of the engine.
 -- Inside: no claim reaches these definitions; a reader of the claims need not believe them.
 pub mod Forest
 pub mod Cells
 pub mod Moves
 pub mod Leaves
 pub mod Scanning
+pub mod Filling

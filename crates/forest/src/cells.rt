@@ -5,7 +5,7 @@ ghost use mathlib.Core.Path.{_≡_};
 ghost use Prim.Native.Nat.{_≤_, _<_};
 ghost use lib.ListN.{length};
 ghost use Rattle.group.specs.Limits.{limit};
-ghost use Rattle.forest.specs.Filling.{cells};
+ghost use Rattle.forest.specs.inside.Filling.{cells};
 ghost use Rattle.forest.specs.inside.Cells.{LeftCode, RightCode, Popped, Pushed, Made};
 use refusals::LIMIT;
 

@@ -2,7 +2,7 @@
 ghost use mathlib.Core.Path.{_≡_};
 ghost use Rattle.refusals.specs.Outcomes.{verdictOf, dropValue};
 ghost use Rattle.forest.specs.Judging.{judged};
-ghost use Rattle.forest.specs.Filling.{FilledTables};
+ghost use Rattle.forest.specs.inside.Filling.{FilledTables};
 use crate::letters::letters_in_front;
 use refusals::LIMIT;
 use refusals::Refusal;

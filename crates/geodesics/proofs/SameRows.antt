@@ -3,7 +3,7 @@ use mathlib.Core.Path.{_≡_, refl, sym, _∙_, _≡⟨_⟩_, _∎}
 use mathlib.Core.List.{List, [], _∷_}
 use Prim.Native.Nat.{ℕ, zero, suc}
 use lib.ListN.{getD}
-use Rattle.lists.specs.Entries.{SameEntries}
+use Rattle.lists.specs.inside.Entries.{SameEntries}
 use Rattle.lists.proofs.Totals.{total-same}
 use Rattle.geodesics.proofs.Rows.{first, rest, row, nextOpen, nextLeft, remaining, Closed, cost}
 use Rattle.geodesics.proofs.Sides.{Sides, fromOne, sumTo, enough, sidesLength}

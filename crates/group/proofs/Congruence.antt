@@ -5,9 +5,9 @@
 -- Assumes nothing.
 use mathlib.Core.Path.{_≡_, refl, sym, ap, subst}
 use mathlib.Core.List.{List, [], _∷_, _++_, append-assoc}
-use mathlib.Core.Logic.{inl, inr, _↔_}
+use mathlib.Core.Logic.{inl, inr}
 use Rattle.group.specs.Letters.{Letter, Word}
-use Rattle.group.specs.Chains.{Strings, Eight, Puts, Step, Chain, lastOf, JoinedBy, Joined}
+use Rattle.group.specs.Chains.{Strings, Eight, Puts, Step, Chain, lastOf, JoinedBy}
 
 -- The least congruence on words in which the strings of R vanish.
 pub data Congruent (R : Strings) : Word → Word → Type 0 where
@@ -122,7 +122,3 @@ module _ {R : Strings} where
       go : (z : Word) (l : List Word) → Chain R z l → lastOf z l ≡ v → Congruent R z v
       go z [] h e = ≈-path e
       go z (y ∷ l) h e = step→≈ (h .0) ⟫ go y l (h .1) e
-
--- For the eight strings the congruence is joining by a chain.
-pub ≈↔joined : (u v : Word) → (u ≈ v) ↔ Joined u v
-≈↔joined u v = ((λ h. ≈→joined h), (λ j. joined→≈ j))

@@ -6,9 +6,9 @@ use Prim.Native.Nat.{ℕ, zero, suc}
 use lib.ListN.{replicate}
 use Rattle.lists.specs.Copies.{copies}
 use Rattle.group.specs.Letters.{Letter, 'a, 'A, Word, inverse}
-use Rattle.group.specs.Chains.{pair-aA, Joined}
+use Rattle.group.specs.Chains.{pair-aA}
 use Rattle.group.specs.Forms.{Form, empty, level, generator, ascending, descending, letters}
-use Rattle.group.proofs.Congruence.{_≈_, ≈-cons, ≈-drop, _⟫_, ≈-path, ≈-front, ≈-back, ≈-append, ≈→joined}
+use Rattle.group.proofs.Congruence.{_≈_, ≈-cons, ≈-drop, _⟫_, ≈-path, ≈-front, ≈-back, ≈-append}
 use Rattle.group.proofs.Shift.{σ, σ-cong, A-past}
 use Rattle.group.proofs.Generators.{σs, σs-nil, σs-append, generator-σs, generator⁻¹-σs}
 
@@ -54,6 +54,3 @@ letters-σs k (level b a f) =
 
 pub letters-levels : (f : Form) → letters f ≈ spellLevels f
 letters-levels f = letters-σs 0 f
-
-pub levels-joined : (f : Form) → Joined (letters f) (spellLevels f)
-levels-joined f = ≈→joined (letters-levels f)

@@ -42,15 +42,6 @@ unique-exponents f g r q h =
     act (letters g) p ≡⟨ act-letters g p ⟩
     levelsMap g p ∎)
 
--- If they are trimmed too, they are equal; and so are those whose letters a chain joins.
-pub unique-form : (f g : Form) → Reduced f → Reduced g → Trimmed f → Trimmed g
-    → SameMap (letters f) (letters g) → f ≡ g
-unique-form f g r q t u h = trimmed-equal f g t u (unique-exponents f g r q h)
-
-pub unique-joined : (f g : Form) → Reduced f → Reduced g → Trimmed f → Trimmed g
-    → Joined (letters f) (letters g) → f ≡ g
-unique-joined f g r q t u j = unique-form f g r q t u (joined-map (letters f) (letters g) j)
-
 -- The form of w is any reduced form whose letters are joined to w, or whose map is that of w.
 pub the-exponents : (w : Word) (f : Form) → Reduced f → SameMap (letters f) w → SameExponents f (formOf w)
 the-exponents w f r h =

@@ -5,7 +5,7 @@ use Prim.Native.Nat.{ℕ, zero, suc, _+_, _-_, _<_, _≤_}
 use native.Mathlib.Omega.{arith}
 use lib.ListN.{length, drop, getD, set, length-set}
 use lib.Seq.{sets}
-use Rattle.trees.specs.Shapes.{Exact}
+use Rattle.trees.specs.inside.ShapeReading.{Exact}
 use Rattle.lengths.specs.Classes.{Class, onLeft}
 use Rattle.lengths.specs.inside.Reading.{sideClasses, leftEdgeClasses, shapeClasses}
 use Rattle.lengths.specs.inside.Steps.{classBytes, leavesIn, leftCarets, Readable, Shaped}

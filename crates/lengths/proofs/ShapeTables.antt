@@ -10,8 +10,9 @@ use lib.ListN.{length, take}
 use lib.Seq.{length-take-le, sets}
 use Rattle.lists.proofs.Writes.{sets-front}
 use Rattle.trees.specs.Trees.{Tree, leaf, caret, carets}
-use Rattle.trees.specs.Pairs.{maxCarets}
-use Rattle.trees.specs.Shapes.{shape, shapeSize, Exact, readShape}
+use Rattle.trees.specs.inside.Counting.{maxCarets}
+use Rattle.trees.specs.Shapes.{shape, shapeSize}
+use Rattle.trees.specs.inside.ShapeReading.{Exact, readShape}
 use Rattle.trees.proofs.Shapes.{shape-length, exact-shape}
 use Rattle.lengths.specs.Classes.{Class}
 use Rattle.lengths.specs.Kinds.{kindsOf}

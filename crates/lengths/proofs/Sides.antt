@@ -6,7 +6,7 @@ use native.Mathlib.Numerals.{add-one}
 use native.Mathlib.Omega.{arith}
 use lib.ListN.{length, drop, getD, set, length-set}
 use lib.Seq.{sets}
-use Rattle.trees.specs.Pairs.{maxCarets}
+use Rattle.trees.specs.inside.Counting.{maxCarets}
 use Rattle.lengths.specs.declared.reader.Place.{Place}
 use Rattle.lengths.specs.Classes.{Class}
 use Rattle.lengths.specs.inside.Reading.{insideAt, classesFrom, sideClasses, nextOnSide}

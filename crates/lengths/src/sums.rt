@@ -2,7 +2,7 @@
 ghost use mathlib.Core.Path.{_≡_};
 ghost use Prim.Native.Nat.{_<_, _≤_};
 ghost use lib.ListN.{length, take, getD};
-ghost use Rattle.trees.specs.Pairs.{maxCarets};
+ghost use Rattle.trees.specs.inside.Counting.{maxCarets};
 ghost use Rattle.trees.specs.Shapes.{shapeSize};
 ghost use Rattle.lengths.specs.Kinds.{inside as insideOf, kindsOf};
 ghost use Rattle.lengths.specs.Weights.{weights};

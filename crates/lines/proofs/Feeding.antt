@@ -9,7 +9,8 @@ use lib.Dec.{ltb}
 use lib.ListN.{length, drop, getD, set, length-set, drop-of-length-le}
 use lib.Seq.{drop-cons}
 use Rattle.lines.specs.Lines.{lineFeed}
-use Rattle.lines.specs.Feeding.{keptLine, keptCount, Took, takeLine, TookLine}
+use Rattle.lines.specs.Feeding.{keptLine, keptCount}
+use Rattle.lines.specs.inside.Taking.{Took, takeLine, TookLine}
 
 -- A byte for which there is room is kept.
 pub keep-inside : (line : List ℕ) (held x : ℕ) → held < length line

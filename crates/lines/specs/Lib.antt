@@ -1,3 +1,5 @@
 -- Lines, and how they are cut from an input that comes in parts.
 pub mod Lines
 pub mod Feeding
+-- what no claim reaches
+pub mod inside

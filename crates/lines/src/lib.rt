@@ -1,7 +1,8 @@
 // The lines of an input that comes in parts: the bytes of a line are kept in a buffer, as many as there is room for.
 ghost use mathlib.Core.Path.{_≡_};
 ghost use lib.ListN.{drop};
-ghost use Rattle.lines.specs.Feeding.{keptLine, keptCount, TookLine};
+ghost use Rattle.lines.specs.Feeding.{keptLine, keptCount};
+ghost use Rattle.lines.specs.inside.Taking.{TookLine};
 
 // The byte that ends a line.
 const LINE_FEED: u8 = 10;

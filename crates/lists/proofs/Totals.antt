@@ -6,7 +6,8 @@ use Prim.Native.Nat.{ℕ, zero, suc, _+_, _≤_}
 use native.Mathlib.Omega.{arith}
 use lib.ListN.{getD, drop, replicate}
 use lib.Seq.{getD-drop}
-use Rattle.lists.specs.Entries.{total, SameEntries}
+use Rattle.lists.specs.Entries.{total}
+use Rattle.lists.specs.inside.Entries.{SameEntries}
 
 -- The same first entry and the same entries behind it.
 pub same-cons : (x y : ℕ) (xs ys : List ℕ) → x ≡ y → SameEntries xs ys → SameEntries (x ∷ xs) (y ∷ ys)

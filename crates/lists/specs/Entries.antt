@@ -2,7 +2,6 @@
 use mathlib.Core.Path.{_≡_}
 use mathlib.Core.List.{List, [], _∷_}
 use Prim.Native.Nat.{ℕ, zero, suc, _+_}
-use lib.ListN.{getD}
 
 -- Entry k of the list, counted from 0, is x.
 abbrev pub At : {A : Type 0} → List A → ℕ → A → Type 0
@@ -14,7 +13,3 @@ At (y ∷ ys) (suc k) x = At ys k x
 abbrev pub total : List ℕ → ℕ
 total [] = 0
 total (x ∷ xs) = x + total xs
-
--- The same entry at every place, where zeros stand behind the last.
-abbrev pub SameEntries : List ℕ → List ℕ → Type 0
-SameEntries xs ys = (i : ℕ) → getD xs i 0 ≡ getD ys i 0

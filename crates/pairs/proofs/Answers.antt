@@ -10,7 +10,8 @@ use lib.Dec.{ltb}
 use lib.Seq.{sets}
 use Rattle.group.specs.Forms.{bSide, aSide, Form}
 use Rattle.group.specs.Limits.{limit}
-use Rattle.refusals.specs.Outcomes.{Outcome, accepted, refused, then, valued, refusal, refusalIn}
+use Rattle.refusals.specs.Outcomes.{Outcome, accepted, refused, then, valued, refusal}
+use Rattle.refusals.specs.inside.Verdicts.{refusalIn}
 use Rattle.refusals.specs.declared.Refusal.{Refusal}
 use Rattle.refusals.specs.declared.Verdict.{Verdict}
 use Rattle.refusals.specs.declared.Verdict.the-variants.{Accepted, Refused}
@@ -33,7 +34,8 @@ use Rattle.pairs.specs.declared.TreePair.{TreePair}
 use Rattle.pairs.specs.declared.TreePair.the-variants as Pair
 use Rattle.pairs.specs.declared.WordLength.{WordLength}
 use Rattle.pairs.specs.declared.WordLength.the-variants as Word
-use Rattle.pairs.specs.Contracts.{treePairOf, wordLengthOf, pairedIn, Paired, Measured, pairingIn, lengthIn}
+use Rattle.pairs.specs.Contracts.{treePairOf, wordLengthOf, pairedIn, Paired, Measured}
+use Rattle.pairs.specs.inside.Passing.{pairingIn, lengthIn}
 use Rattle.pairs.proofs.Tables.{tree-of-table, tables-fit}
 
 -- The calls' own tables.

@@ -6,7 +6,7 @@ use Prim.Native.Nat.{ℕ, suc, _≤_, max}
 use native.Mathlib.Omega.{arith}
 use lib.ListN.{length}
 use borrow.Author.Tests.{le-ltb}
-use Rattle.lists.specs.Entries.{SameEntries}
+use Rattle.lists.specs.inside.Entries.{SameEntries}
 use Rattle.group.specs.Forms.{Side, bSide, aSide, Form, exponents}
 use Rattle.group.specs.Limits.{limit}
 use Rattle.group.proofs.Exponents.{exponents-at}
@@ -16,7 +16,8 @@ use Rattle.refusals.specs.Outcomes.{accepted}
 use Rattle.records.specs.Format.{Within}
 use Rattle.records.proofs.ClearedTables.{Cleared, tableOf, within-behind, table-length, table-at}
 use Rattle.trees.specs.Building.{treeOf}
-use Rattle.trees.specs.Pairs.{caretsOfSides, caretsOf, maxCarets}
+use Rattle.trees.specs.Pairs.{caretsOfSides, caretsOf}
+use Rattle.trees.specs.inside.Counting.{maxCarets}
 use Rattle.trees.specs.inside.Writing.{tableCarets}
 use Rattle.trees.proofs.Rows.{tree-same}
 use Rattle.trees.proofs.Needed.{needed-same}

@@ -13,17 +13,12 @@ use lib.Dec.{ltb}
 use lib.Seq.{sets}
 use Rattle.group.specs.Forms.{Form}
 use Rattle.refusals.specs.Outcomes.{Outcome, accepted, refused, after, then, valued, refusal}
-use Rattle.refusals.specs.declared.Refusal.the-variants.{BadFrame}
 use Rattle.records.specs.Reading.{decode}
 use Rattle.records.specs.Faults.{Bytes}
 use Rattle.trees.specs.Trees.{Tree}
 use Rattle.trees.specs.Pairs.{caretsOf, minusTree, plusTree}
 use Rattle.trees.specs.Shapes.{shape, shapeSize}
-use Rattle.trees.specs.declared.Pairing.{Pairing}
-use Rattle.trees.specs.declared.Pairing.the-variants as Paired-by
 use Rattle.lengths.specs.Weights.{formLength}
-use Rattle.lengths.specs.declared.Length.{Length}
-use Rattle.lengths.specs.declared.Length.the-variants as Summed
 use Rattle.pairs.specs.declared.TreePair.{TreePair}
 use Rattle.pairs.specs.declared.TreePair.the-variants as Pair
 use Rattle.pairs.specs.declared.WordLength.{WordLength}
@@ -60,13 +55,3 @@ pub record Paired (s minus plus minus′ plus′ : List ℕ) (r : TreePair) : Ty
 pub record Measured (s : List ℕ) (r : WordLength) : Type 0 where
   pub are-bytes : Bytes s
   pub result : wordLengthOf r ≡ valued formLength (decode s)
-
--- The answers passed on; what is not met stands for itself.
-abbrev pub pairingIn : Pairing → TreePair
-pairingIn (Paired-by.Carets n) = Pair.Carets n
-pairingIn (Paired-by.Refused r) = Pair.Refused r
-pairingIn Paired-by.Unfit = Pair.Refused BadFrame
-
-abbrev pub lengthIn : Length → WordLength
-lengthIn (Summed.Letters n) = Word.Letters n
-lengthIn Summed.Unfit = Word.Refused BadFrame

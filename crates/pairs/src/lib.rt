@@ -1,6 +1,7 @@
 // The tree pair and the word length of a record.
 ghost use mathlib.Core.Path.{_≡_};
-ghost use Rattle.pairs.specs.Contracts.{pairingIn, lengthIn, Paired, Measured};
+ghost use Rattle.pairs.specs.Contracts.{Paired, Measured};
+ghost use Rattle.pairs.specs.inside.Passing.{pairingIn, lengthIn};
 use lengths::Length;
 use refusals::LIMIT;
 use refusals::Refusal;

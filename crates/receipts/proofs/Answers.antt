@@ -9,7 +9,8 @@ use lib.ListN.{length}
 use lib.Seq.{sets}
 use Rattle.refusals.specs.Outcomes.{Outcome, accepted, refused, after, then}
 use Rattle.receipts.specs.Serving.{Amid, served, partSize}
-use Rattle.receipts.specs.Contracts.{servingOf, answerOf, servedIn, ServedPart, PartTaken}
+use Rattle.receipts.specs.Contracts.{servingOf, answerOf, servedIn, ServedPart}
+use Rattle.receipts.specs.inside.Taking.{PartTaken}
 use Rattle.receipts.specs.declared.Served.{Served}
 use Rattle.receipts.specs.declared.Serving.{Serving}
 use Rattle.receipts.specs.declared.Serving.the-variants.{Taken}

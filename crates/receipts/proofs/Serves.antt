@@ -8,11 +8,11 @@ use lib.ListN.{length, take, drop, length-take, length-drop, drop-of-length-le}
 use lib.Seq.{drop-drop}
 use Rattle.lists.specs.inside.Writes.{Wrote, Writing}
 use Rattle.lists.proofs.Writes.{write-start, write-more, write-done, writing-length}
-use Rattle.lines.specs.Feeding.{TookLine}
+use Rattle.lines.specs.inside.Taking.{TookLine}
 use Rattle.lines.specs.declared.Fed.{Fed}
 use Rattle.receipts.specs.Receipts.{receiptOf}
 use Rattle.receipts.specs.Serving.{Amid, lineSize, nextNumber, receiptThen, served, receiptSize, partSize}
-use Rattle.receipts.specs.Contracts.{PartTaken}
+use Rattle.receipts.specs.inside.Taking.{PartTaken}
 use Rattle.receipts.proofs.Turns.{Ends, RunsOut, turn-ends, turn-runs-out}
 use Rattle.receipts.proofs.Sizes.{receipt-length}
 use Rattle.receipts.proofs.Bounds.{room}

@@ -8,7 +8,8 @@ use native.Mathlib.Decide.{ℕ-discrete}
 use native.Mathlib.Omega.{arith}
 use lib.ListN.{length, take, drop}
 use Rattle.lines.specs.Lines.{lineFeed}
-use Rattle.lines.specs.Feeding.{keptLine, keptCount, Took, takeLine, TookLine}
+use Rattle.lines.specs.Feeding.{keptLine, keptCount}
+use Rattle.lines.specs.inside.Taking.{Took, takeLine, TookLine}
 use Rattle.lines.specs.declared.Fed.{Fed}
 use Rattle.lines.proofs.Feeding.{keep-length, took-end, took-more}
 use Rattle.lines.proofs.Holding.{keep-size}

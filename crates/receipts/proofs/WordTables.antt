@@ -7,7 +7,7 @@ use native.Mathlib.Omega.{arith}
 use native.Mathlib.Decide.{decLt}
 use lib.ListN.{length, getD, List·getD-eq-default}
 use borrow.Author.Tests.{le-ltb}
-use Rattle.lists.specs.Entries.{SameEntries}
+use Rattle.lists.specs.inside.Entries.{SameEntries}
 use Rattle.lists.specs.Tables.{values}
 use Rattle.lists.proofs.Tables.{values-length, values-at}
 use Rattle.group.specs.Letters.{Word}
@@ -19,7 +19,8 @@ use Rattle.group.proofs.Sizes.{form-sum, form-levels, form-index}
 use Rattle.refusals.specs.Outcomes.{Outcome, accepted, then}
 use Rattle.trees.specs.Trees.{Tree}
 use Rattle.trees.specs.Building.{treeOf}
-use Rattle.trees.specs.Pairs.{caretsOfSides, caretsOf, maxCarets}
+use Rattle.trees.specs.Pairs.{caretsOfSides, caretsOf}
+use Rattle.trees.specs.inside.Counting.{maxCarets}
 use Rattle.trees.specs.inside.Writing.{tableCarets}
 use Rattle.trees.proofs.Rows.{tree-same}
 use Rattle.trees.proofs.Needed.{needed-same}

@@ -53,9 +53,3 @@ pub record ServedPart (part : List ℕ) (number held : ℕ) (line out line′ ou
   pub result : servingOf r ≡ then (servedIn part number held line out) (λ m. accepted (answerOf m))
   pub leaves-line : line′ ≡ after (servedIn part number held line out) line (λ m. m .line)
   pub leaves-out : out′ ≡ after (servedIn part number held line out) out (λ m. sets out 0 (m .receipts))
-
--- A part was taken: the answer, the buffer of the line, and the receipts at the front of the output buffer.
-pub record PartTaken (m : Amid) (out line′ out′ : List ℕ) (s : Served) : Type 0 where
-  pub result : s ≡ answerOf m
-  pub leaves-line : line′ ≡ m .line
-  pub leaves-out : out′ ≡ sets out 0 (m .receipts)

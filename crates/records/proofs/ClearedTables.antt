@@ -13,7 +13,8 @@ use Rattle.lists.proofs.Totals.{same-replicate}
 use Rattle.group.specs.Forms.{Side, bSide, aSide, Form, exponent}
 use Rattle.group.specs.Limits.{limit}
 use Rattle.group.proofs.Reduced.{Canonical}
-use Rattle.refusals.specs.Outcomes.{Outcome, accepted, refused, dropValue, refusal, verdictOf, refusalIn}
+use Rattle.refusals.specs.Outcomes.{Outcome, accepted, refused, dropValue, refusal, verdictOf}
+use Rattle.refusals.specs.inside.Verdicts.{refusalIn}
 use Rattle.refusals.specs.declared.Refusal.{Refusal}
 use Rattle.refusals.specs.declared.Verdict.{Verdict}
 use Rattle.refusals.specs.declared.Verdict.the-variants.{Accepted, Refused}

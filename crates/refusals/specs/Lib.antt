@@ -1,3 +1,5 @@
 -- Refusals and outcomes.
 pub mod Refusals
 pub mod Outcomes
+-- what no claim reaches
+pub mod inside

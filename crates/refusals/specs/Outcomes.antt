@@ -5,7 +5,6 @@
 -- Assumes nothing.
 use Prim.Native.Nat.{ℕ}
 use Rattle.refusals.specs.declared.Refusal.{Refusal}
-use Rattle.refusals.specs.declared.Refusal.the-variants.{BadFrame}
 use Rattle.refusals.specs.declared.Verdict.{Verdict}
 use Rattle.refusals.specs.declared.Verdict.the-variants.{Accepted, Refused}
 use Rattle.refusals.specs.declared.Written.{Written}
@@ -39,11 +38,6 @@ refusal r = refused (numberOf r) (placeOf r)
 abbrev pub verdictOf : Verdict → Outcome ℕ
 verdictOf Accepted = accepted 0
 verdictOf (Refused r) = refusal r
-
--- The refusal of a verdict; an accepted one has none, and BadFrame stands for it.
-abbrev pub refusalIn : Verdict → Refusal
-refusalIn Accepted = BadFrame
-refusalIn (Refused r) = r
 
 -- The value is the number of bytes written.
 abbrev pub writtenOf : Written → Outcome ℕ

@@ -2,7 +2,7 @@
 ghost use mathlib.Core.Path.{_≡_};
 ghost use Rattle.group.specs.Limits.{limit as theLimit};
 ghost use Rattle.refusals.specs.Refusals.{numberOf, placeOf};
-ghost use Rattle.refusals.specs.Outcomes.{refusalIn};
+ghost use Rattle.refusals.specs.inside.Verdicts.{refusalIn};
 
 // The most letters of a word; also the highest index and the highest sum of exponents of a record.
 pub const LIMIT: usize = 4096;

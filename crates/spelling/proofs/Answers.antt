@@ -13,7 +13,8 @@ use Rattle.group.specs.Forms.{bSide, aSide, Form, exponent, levels}
 use Rattle.group.specs.Limits.{limit}
 use Rattle.group.proofs.Bytes.{bytes-length}
 use Rattle.group.proofs.Sizes.{trimmed-levels}
-use Rattle.refusals.specs.Outcomes.{accepted, refused, refusal, refusalIn}
+use Rattle.refusals.specs.Outcomes.{accepted, refused, refusal}
+use Rattle.refusals.specs.inside.Verdicts.{refusalIn}
 use Rattle.refusals.specs.declared.Refusal.{Refusal}
 use Rattle.refusals.specs.declared.Refusal.the-variants.{ShortBuffer, LongSpelling}
 use Rattle.refusals.specs.declared.Verdict.{Verdict}
@@ -22,7 +23,8 @@ use Rattle.refusals.specs.declared.Written.the-variants as Written
 use Rattle.records.specs.Reading.{decode}
 use Rattle.records.specs.inside.Contracts.{Decoded}
 use Rattle.records.proofs.ClearedTables.{Cleared, cleared, Read, read-refused, read-accepted, within-behind, table-at}
-use Rattle.spelling.specs.Runs.{Run, spelt}
+use Rattle.spelling.specs.Runs.{Run}
+use Rattle.spelling.specs.inside.RunLetters.{spelt}
 use Rattle.spelling.specs.Spelling.{spelling, runs}
 use Rattle.spelling.specs.inside.Steps.{readExponent, risingRuns, fallingRuns, tableSpelling, tableLetters}
 use Rattle.spelling.specs.Contracts.{spelledIn, Spelled}

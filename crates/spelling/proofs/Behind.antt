@@ -6,7 +6,8 @@ use Prim.Native.Nat.{ℕ, zero, suc, _+_, _<_, _≤_}
 use native.Mathlib.Omega.{arith}
 use lib.ListN.{length, replicate, length-append, length-replicate}
 use Rattle.group.specs.Letters.{Letter, Word}
-use Rattle.spelling.specs.Runs.{Run, run, putRun, turn, runLetters, spelt, distance, lettersFrom}
+use Rattle.spelling.specs.Runs.{Run, run, putRun, distance, lettersFrom}
+use Rattle.spelling.specs.inside.RunLetters.{turn, runLetters, spelt}
 use Rattle.spelling.specs.inside.Steps.{behindRun, behindPower, behindRuns}
 use Rattle.spelling.specs.declared.speller.Speller.{Speller}
 use Rattle.spelling.proofs.Lengths.{turn-length}

@@ -5,7 +5,8 @@ use Prim.Native.Nat.{ℕ, _-_}
 use native.Mathlib.Omega.{arith}
 use lib.ListN.{length, replicate, length-append, length-replicate}
 use Rattle.group.specs.Letters.{'a, 'A}
-use Rattle.spelling.specs.Runs.{Run, run, turn, spelt, distance, lettersFrom}
+use Rattle.spelling.specs.Runs.{Run, run, distance, lettersFrom}
+use Rattle.spelling.specs.inside.RunLetters.{turn, spelt}
 
 pub turn-length : (m n : ℕ) → length (turn m n) ≡ distance m n
 turn-length m n =

@@ -10,7 +10,7 @@ use Rattle.lists.proofs.Writes.{sets-replicate}
 use Rattle.group.specs.Letters.{'a, 'A}
 use Rattle.group.specs.Bytes.{bytesOf}
 use Rattle.group.proofs.Bytes.{bytes-replicate}
-use Rattle.spelling.specs.Runs.{turn}
+use Rattle.spelling.specs.inside.RunLetters.{turn}
 
 -- The letter stands from `at` on up to i.
 pub record Lettered (entry : List ℕ) (at letter end : ℕ) (word : List ℕ) (i : ℕ) : Type 0 where

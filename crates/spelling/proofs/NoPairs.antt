@@ -8,7 +8,8 @@ use lib.ListN.{replicate}
 use Rattle.group.specs.Letters.{Letter, 'a, 'A, 'b, 'B, Word, inverseLetter}
 use Rattle.group.specs.Bytes.{byteOf}
 use Rattle.group.proofs.FreeWords.{Apart, NoPairs}
-use Rattle.spelling.specs.Runs.{Run, turn, spelt}
+use Rattle.spelling.specs.Runs.{Run}
+use Rattle.spelling.specs.inside.RunLetters.{turn, spelt}
 use Rattle.spelling.proofs.Turns.{turn-cases}
 use Rattle.spelling.proofs.Parted.{OfB, is-b, is-B, Next, Parted, none, more}
 

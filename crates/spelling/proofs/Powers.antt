@@ -16,8 +16,9 @@ use Rattle.group.specs.Forms.{ascending, descending, letters}
 use Rattle.group.proofs.Congruence.{≈-refl, ≈-sym, ≈-cons, _⟫_, ≈-path, ≈-front, ≈-back}
 use Rattle.group.proofs.Inverses.{inverse-append, inverse-replicate, cancel-behind, cancel-front}
 use Rattle.group.proofs.FreeWords.{pair}
-use Rattle.spelling.specs.Runs.{Run, run, putRun, rising, falling, runsUpTo, turn, spelt}
-use Rattle.spelling.specs.Spelling.{runSpelling}
+use Rattle.spelling.specs.Runs.{Run, run, putRun, rising, falling, runsUpTo}
+use Rattle.spelling.specs.inside.RunLetters.{turn, spelt}
+use Rattle.spelling.specs.inside.RunLetters.{runSpelling}
 use Rattle.spelling.proofs.Runs.{runs-up-to}
 use Rattle.spelling.proofs.Turns.{_~_, turn-alone, turn-front}
 

@@ -10,7 +10,7 @@ use Rattle.lists.proofs.Copies.{replicate-past}
 use Rattle.group.specs.Letters.{'a, 'A, Word}
 use Rattle.group.proofs.Congruence.{Congruent, ≈-drop, _⟫_, ≈-path, ≈-front, ≈-back}
 use Rattle.group.proofs.FreeWords.{Pair, pair}
-use Rattle.spelling.specs.Runs.{turn}
+use Rattle.spelling.specs.inside.RunLetters.{turn}
 
 infix 50 _~_
 -- The congruence of the four pairs.

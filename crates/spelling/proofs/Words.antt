@@ -7,7 +7,8 @@ use Rattle.group.specs.Forms.{bSide, aSide, Form, exponent, letters}
 use Rattle.group.specs.Reducing.{Reduced}
 use Rattle.group.proofs.FreeWords.{freely-same}
 use Rattle.group.proofs.Deletions.{no-pairs-reduced, freely-reduced, freely-deletions, freely-fixed, deletions-end}
-use Rattle.spelling.specs.Spelling.{Spells, spelling, runs, runSpelling, spellingLength}
+use Rattle.spelling.specs.Spelling.{Spells, spelling, runs, spellingLength}
+use Rattle.spelling.specs.inside.RunLetters.{runSpelling}
 use Rattle.spelling.proofs.Lengths.{spelt-length}
 use Rattle.spelling.proofs.Powers.{letters-runs}
 use Rattle.spelling.proofs.Parted.{runs-parted}

@@ -12,7 +12,8 @@ use Rattle.lists.proofs.Writes.{writing-length}
 use Rattle.group.specs.Letters.{Letter, Word}
 use Rattle.group.specs.Bytes.{byteOf, bytesOf}
 use Rattle.group.proofs.Bytes.{bytes-length, bytes-append, bytes-replicate}
-use Rattle.spelling.specs.Runs.{Run, putRun, turn, runLetters, spelt}
+use Rattle.spelling.specs.Runs.{Run, putRun}
+use Rattle.spelling.specs.inside.RunLetters.{turn, runLetters, spelt}
 use Rattle.spelling.specs.inside.Steps.{behindRun, behindRuns, WroteRuns}
 use Rattle.spelling.specs.declared.speller.Speller.{Speller}
 use Rattle.spelling.proofs.Runs.{put-append}

@@ -1,15 +1,13 @@
--- The letters of a freely reduced spelling, run by run. x_k^e, for k at least 1, is k−1 letters A, e letters b, k−1
--- letters a; between two such powers only letters a and A meet, and of these the lesser number is deleted.
+-- The runs of a freely reduced spelling, and the number of its letters. x_k^e, for k at least 1, is k−1 letters A, e
+-- letters b, k−1 letters a; between two such powers only letters a and A meet, and of these the lesser number is
+-- deleted.
 --     run k x e         e letters x, which is b or B, of the power of x_(k+1) or of its inverse
 --     rising, falling   the runs of the b side, indices rising, and of the a side, indices falling
---     turn m n          what m letters a and then n letters A leave
---     runLetters, spelt  the letters of runs; the whole word, with x_0^m before the runs and x_0^−n behind them
 --     distance, lettersFrom   the number of letters of a turn and of the whole word
 -- Assumes nothing.
 use mathlib.Core.List.{List, [], _∷_, _++_}
 use Prim.Native.Nat.{ℕ, zero, suc, _+_, _-_}
-use lib.ListN.{replicate}
-use Rattle.group.specs.Letters.{Letter, 'a, 'A, 'b, 'B, Word}
+use Rattle.group.specs.Letters.{Letter, 'b, 'B}
 
 -- e letters x of a power of x_(k+1) or of its inverse.
 pub data Run : Type 0 where
@@ -33,20 +31,6 @@ falling a (suc m) = putRun m 'B (a (suc m)) (falling a m)
 -- The runs of a form's exponents of the indices 1 to m, in the form's order.
 abbrev pub runsUpTo : ℕ → (ℕ → ℕ) → (ℕ → ℕ) → List Run
 runsUpTo m b a = rising b 0 m ++ falling a m
-
--- What m letters a and then n letters A leave.
-abbrev pub turn : ℕ → ℕ → Word
-turn m n = replicate (m - n) 'a ++ replicate (n - m) 'A
-
--- The letters of runs, where `due` letters a stand before them; those due behind the last run are left out.
-abbrev pub runLetters : ℕ → List Run → Word
-runLetters due [] = []
-runLetters due (run k x e ∷ l) = turn due k ++ (replicate e x ++ runLetters k l)
-
--- The word of runs, with m letters a before them and n letters A behind them.
-abbrev pub spelt : ℕ → List Run → ℕ → Word
-spelt m [] n = turn m n
-spelt m (run k x e ∷ l) n = turn m k ++ (replicate e x ++ spelt k l n)
 
 -- |m − n|, the number of letters of a turn.
 abbrev pub distance : ℕ → ℕ → ℕ

@@ -3,14 +3,14 @@
 -- group's Forms, the second its FreeReduction.
 --     Spells f w       w is such a word                      spelling f   the word; there is no other
 --     runs f           the powers of index 1 and above, as runs
---     runSpelling f    the word, run by run                  spellingLength f   its number of letters
+--     spellingLength f the number of letters of the word
 -- Assumes nothing.
 use mathlib.Core.List.{List}
 use Prim.Native.Nat.{ℕ}
 use Rattle.group.specs.Letters.{Word}
 use Rattle.group.specs.FreeReduction.{Deletions, FreelyReduced, freely}
 use Rattle.group.specs.Forms.{bSide, aSide, Form, exponent, levels, letters}
-use Rattle.spelling.specs.Runs.{Run, runsUpTo, spelt, lettersFrom}
+use Rattle.spelling.specs.Runs.{Run, runsUpTo, lettersFrom}
 
 -- The letters of the form's powers, in order; neighbouring inverse letters deleted; none left.
 pub record Spells (f : Form) (w : Word) : Type 0 where
@@ -24,10 +24,6 @@ spelling f = freely (letters f)
 -- The powers of index 1 and above, in the form's order.
 abbrev pub runs : Form → List Run
 runs f = runsUpTo (levels f) (exponent bSide f) (exponent aSide f)
-
--- The spelling of a reduced form, run by run.
-abbrev pub runSpelling : Form → Word
-runSpelling f = spelt (exponent bSide f 0) (runs f) (exponent aSide f 0)
 
 -- The number of its letters. With k_1, …, k_m the indices of the runs: their exponents, and |b_0 − (k_1 − 1)|, each
 -- |k_j − k_(j+1)|, and |(k_m − 1) − a_0|; where there is no run, |b_0 − a_0|.

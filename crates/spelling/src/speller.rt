@@ -9,7 +9,8 @@ ghost use lib.ListN.{length, replicate};
 ghost use Rattle.group.specs.Letters.{'b, 'B};
 ghost use Rattle.group.specs.Bytes.{bytesOf};
 ghost use Rattle.lists.specs.inside.Writes.{Wrote};
-ghost use Rattle.spelling.specs.Runs.{putRun, turn, distance};
+ghost use Rattle.spelling.specs.Runs.{putRun, distance};
+ghost use Rattle.spelling.specs.inside.RunLetters.{turn};
 ghost use Rattle.spelling.specs.inside.Steps.{behindPower, WroteRuns};
 use refusals::GeneratorIndex;
 

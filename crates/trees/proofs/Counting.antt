@@ -6,7 +6,8 @@ use native.Mathlib.Omega.{arith}
 use lib.ListN.{length, drop, getD}
 use lib.Seq.{drop-cons, drop-length}
 use Rattle.lists.specs.Entries.{total}
-use Rattle.trees.specs.Building.{needed, raised}
+use Rattle.trees.specs.Building.{needed}
+use Rattle.trees.specs.inside.Counting.{raised}
 use Rattle.trees.specs.inside.Steps.{Unused}
 
 -- An exponent above 0.

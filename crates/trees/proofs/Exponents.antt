@@ -10,7 +10,7 @@ use Prim.Native.Nat.{ℕ, zero, suc, _+_, _<_, _≤_}
 use native.Mathlib.Omega.{arith}
 use native.Mathlib.Decide.{decLe}
 use lib.ListN.{length, length-append, getD, List·getD-eq-default}
-use Rattle.lists.specs.Entries.{SameEntries}
+use Rattle.lists.specs.inside.Entries.{SameEntries}
 use Rattle.lists.proofs.Entries.{at-getD, at-map}
 use Rattle.group.specs.Points.{Digit, 𝟎, 𝟏}
 use Rattle.group.specs.Forms.{Side, Form, exponent, exponents}

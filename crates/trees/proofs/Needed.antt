@@ -9,7 +9,8 @@ use Prim.Native.Nat.{ℕ, zero, suc, _+_, _<_, _≤_}
 use native.Mathlib.Omega.{arith}
 use native.Mathlib.Decide.{decLe}
 use lib.ListN.{length, getD, drop, List·getD-eq-default}
-use Rattle.lists.specs.Entries.{total, SameEntries}
+use Rattle.lists.specs.Entries.{total}
+use Rattle.lists.specs.inside.Entries.{SameEntries}
 use Rattle.lists.proofs.Totals.{drop-total, drop-total-same, total-zeros}
 use Rattle.trees.specs.Building.{needed}
 

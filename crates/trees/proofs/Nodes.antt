@@ -8,7 +8,7 @@ use Prim.Native.Nat.{ℕ, suc, _+_, _≤_}
 use native.Mathlib.Omega.{arith}
 use lib.ListN.{length, replicate, length-append}
 use lib.Seq.{ext-getD}
-use Rattle.lists.specs.Entries.{SameEntries}
+use Rattle.lists.specs.inside.Entries.{SameEntries}
 use Rattle.lists.proofs.Copies.{replicate-past}
 use Rattle.lists.proofs.Totals.{same-append, same-zero}
 use Rattle.trees.specs.Trees.{Tree, leaf, caret, carets}

@@ -10,7 +10,8 @@ use native.Mathlib.Omega.{arith}
 use lib.ListN.{length, length-append}
 use Rattle.trees.specs.Trees.{Tree, leaf, caret, carets}
 use Rattle.trees.specs.Building.{firstTree}
-use Rattle.trees.specs.Shapes.{shape, shapeSize, Exact, readShapes, readShape}
+use Rattle.trees.specs.Shapes.{shape, shapeSize}
+use Rattle.trees.specs.inside.ShapeReading.{Exact, readShapes, readShape}
 
 -- A tree with N carets has a shape of 2N + 1 bytes.
 pub shape-length : (t : Tree) → length (shape t) ≡ shapeSize (carets t)

@@ -7,7 +7,7 @@ use mathlib.Core.Path.{_≡_, refl, sym, _∙_, ap, ap₂, _≡⟨_⟩_, _∎}
 use mathlib.Core.List.{List, [], _∷_, _++_, append-assoc}
 use Prim.Native.Nat.{ℕ, zero, suc, _+_, _<_}
 use native.Mathlib.Omega.{arith}
-use Rattle.lists.specs.Entries.{SameEntries}
+use Rattle.lists.specs.inside.Entries.{SameEntries}
 use Rattle.group.specs.Points.{Digit, 𝟎, 𝟏}
 use Rattle.group.specs.Forms.{bSide, aSide, Form, empty, level, exponents}
 use Rattle.group.proofs.Inner.{Inner, map-a, map-A, lift, lift-id, lift-lift, lift-cong}

@@ -7,12 +7,12 @@ use native.Mathlib.Omega.{arith}
 use native.Mathlib.Decide.{decLt}
 use lib.ListN.{length, take, getD, replicate, length-take, length-replicate, List·getD-eq-default}
 use lib.Seq.{getD-take}
-use Rattle.lists.specs.Entries.{SameEntries}
+use Rattle.lists.specs.inside.Entries.{SameEntries}
 use Rattle.lists.proofs.Tables.{filled-length, filled-at, filled-beyond}
 use Rattle.lists.proofs.Totals.{same-replicate}
 use Rattle.trees.specs.Trees.{carets}
 use Rattle.trees.specs.Building.{needed, treeOf}
-use Rattle.trees.specs.Pairs.{maxCarets}
+use Rattle.trees.specs.inside.Counting.{maxCarets}
 use Rattle.trees.specs.Shapes.{shape, shapeSize}
 use Rattle.trees.specs.inside.Writing.{nodesFrom}
 use Rattle.trees.specs.inside.Steps.{NodesFit, ShapeFits, copiedFront}

@@ -13,11 +13,6 @@ needed i [] = 0
 needed i (zero ∷ es) = needed (suc i) es
 needed i (suc e ∷ es) = max (suc (i + (suc e + total es))) (needed (suc i) es)
 
--- The same, one exponent in front of the others: `sum` is that of all, `behind` what the others need.
-abbrev pub raised : (i exponent sum behind : ℕ) → ℕ
-raised i zero sum behind = behind
-raised i (suc e) sum behind = max (suc (i + sum)) behind
-
 -- A row of trees has single leaves behind its last.
 abbrev pub firstTree : List Tree → Tree
 firstTree [] = leaf

@@ -5,11 +5,10 @@
 -- Assumes nothing.
 use mathlib.Core.Path.{_≡_}
 use mathlib.Core.List.{List, [], _∷_, _++_}
-use Prim.Native.Nat.{ℕ, suc, _+_, _*_, _≤_, max}
+use Prim.Native.Nat.{ℕ, suc, _≤_, max}
 use Rattle.group.specs.Points.{Digit, 𝟎, 𝟏, below1, SamePoint}
 use Rattle.group.specs.Maps.{mapOf}
 use Rattle.group.specs.Forms.{bSide, aSide, Form, exponent, exponents, letters}
-use Rattle.group.specs.Limits.{limit}
 use Rattle.trees.specs.Trees.{Tree, carets, Address, IsLeaf}
 use Rattle.trees.specs.Exponents.{HasExponents}
 use Rattle.trees.specs.Building.{needed, treeOf}
@@ -28,10 +27,6 @@ minusTree f = treeOf (caretsOf f) (exponents aSide f)
 
 abbrev pub plusTree : Form → Tree
 plusTree f = treeOf (caretsOf f) (exponents bSide f)
-
--- N never exceeds this.
-abbrev pub maxCarets : ℕ
-maxCarets = 2 * limit + 1
 
 -- Two trees of one size with the exponents of a form.
 pub record Pair (f : Form) (t s : Tree) : Type 0 where

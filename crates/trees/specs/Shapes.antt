@@ -1,8 +1,7 @@
 -- The shape of a tree in bytes (01, 'The tree pair and the length'): node before left subtree before right subtree,
 -- byte value 1 for a caret and 0 for a leaf.
---     shape t         the bytes            Exact s n        the bytes are the shapes of n trees, one behind another
---     nodes t         addresses by number  subtreeEnd s k   where the subtree of node k ends
---     readShape s     the tree of a shape
+--     shape t         the bytes            nodes t         addresses by number
+--     subtreeEnd s k  where the subtree of node k ends
 -- Assumes nothing.
 use mathlib.Core.List.{List, [], _∷_, _++_}
 use Prim.Native.Nat.{ℕ, zero, suc, _+_, _*_}
@@ -10,7 +9,6 @@ use lib.ListN.{drop}
 use Rattle.lists.specs.Entries.{At}
 use Rattle.group.specs.Points.{𝟎, 𝟏}
 use Rattle.trees.specs.Trees.{Tree, leaf, caret, Address, below}
-use Rattle.trees.specs.Building.{firstTree, laterTrees}
 
 -- The bytes of a tree.
 abbrev pub shape : Tree → List ℕ
@@ -40,24 +38,3 @@ span (suc b ∷ s) (suc n) = suc (span s (suc (suc n)))
 -- The number just behind the last node of the subtree of node k.
 abbrev pub subtreeEnd : List ℕ → ℕ → ℕ
 subtreeEnd s k = k + span (drop k s) 1
-
--- The bytes are the shapes of n trees, one behind another.
-abbrev pub Exact : List ℕ → ℕ → Type 0
-Exact [] zero = Unit {0}
-Exact [] (suc n) = ⊥
-Exact (zero ∷ s) zero = ⊥
-Exact (zero ∷ s) (suc n) = Exact s n
-Exact (suc zero ∷ s) zero = ⊥
-Exact (suc zero ∷ s) (suc n) = Exact s (suc (suc n))
-Exact (suc (suc b) ∷ s) n = ⊥
-
--- The trees of bytes, from their end: a 0 is a leaf in front of the others, any other byte a caret over the first two.
-abbrev pub readShapes : List ℕ → List Tree
-readShapes [] = []
-readShapes (zero ∷ s) = leaf ∷ readShapes s
-readShapes (suc b ∷ s) =
-    caret (firstTree (readShapes s)) (firstTree (laterTrees (readShapes s))) ∷ laterTrees (laterTrees (readShapes s))
-
--- The tree of a shape.
-abbrev pub readShape : List ℕ → Tree
-readShape s = firstTree (readShapes s)

@@ -2,8 +2,10 @@
 ghost use mathlib.Core.Path.{_≡_};
 ghost use Prim.Native.Nat.{_≤_, max};
 ghost use lib.ListN.{length};
-ghost use Rattle.trees.specs.Building.{needed as neededFrom, raised as raisedBy};
-ghost use Rattle.trees.specs.Pairs.{maxCarets, caretsOfSides};
+ghost use Rattle.trees.specs.Building.{needed as neededFrom};
+ghost use Rattle.trees.specs.inside.Counting.{raised as raisedBy};
+ghost use Rattle.trees.specs.Pairs.{caretsOfSides};
+ghost use Rattle.trees.specs.inside.Counting.{maxCarets};
 ghost use Rattle.trees.specs.inside.Steps.{Unused};
 use refusals::GeneratorIndex;
 

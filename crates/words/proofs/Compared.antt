@@ -21,11 +21,14 @@ use Rattle.refusals.specs.Refusals.{numberOf, placeOf}
 use Rattle.refusals.specs.Outcomes.{Outcome, accepted, refused, dropValue, verdictOf}
 use Rattle.refusals.proofs.Outcomes.{accepted-same, drop-accepted, drop-refused}
 use Rattle.records.proofs.Lengths.{encode-size}
-use Rattle.forest.specs.Filling.{cells, room, tableAfter}
+use Rattle.forest.specs.Filling.{tableAfter}
+use Rattle.forest.specs.inside.Filling.{cells, room}
 use Rattle.words.specs.Recording.{encodeWord, countRecord, bufferAfter, Memory, judgedWith, Left}
-use Rattle.words.specs.Recording.{Recorded, Accepts, Ready, WordWritten}
+use Rattle.words.specs.Recording.{Recorded}
+use Rattle.words.specs.inside.Writing.{Accepts, Ready, WordWritten}
 use Rattle.words.specs.Comparing.{decided, decisionOf, sameBytes, verdictBy, beside}
-use Rattle.words.specs.Comparing.{Compared, TwoWritten}
+use Rattle.words.specs.Comparing.{Compared}
+use Rattle.words.specs.inside.Writing.{TwoWritten}
 use Rattle.words.specs.declared.Comparison.{Comparison}
 use Rattle.words.specs.declared.Comparison.the-variants.{First, Second}
 use Rattle.words.proofs.Judged.{accepted-record}

@@ -22,11 +22,13 @@ use Rattle.records.specs.declared.Encoding.{Encoding}
 use Rattle.records.specs.declared.Encoding.the-variants.{Bytes, Refused, Unfit}
 use Rattle.records.proofs.FormTables.{record-values}
 use Rattle.records.proofs.Lengths.{encode-size}
-use Rattle.forest.specs.Filling.{cells, room, judgedIn, fillingOf, tableAfter, FilledTables}
+use Rattle.forest.specs.Filling.{tableAfter}
+use Rattle.forest.specs.inside.Filling.{cells, room, judgedIn, fillingOf, FilledTables}
 use Rattle.forest.specs.declared.Filling.{Filling}
 use Rattle.forest.specs.declared.Filling.the-variants.{Filled, Refused as NotFilled, Unfit as NoScratch}
-use Rattle.words.specs.Recording.{memory, encodeWord, countRecord, bufferAfter, Ready, WordWritten}
-use Rattle.words.specs.Recording.{bytesWritten, countLevels}
+use Rattle.words.specs.Recording.{memory, encodeWord, countRecord, bufferAfter}
+use Rattle.words.specs.inside.Writing.{Ready, WordWritten}
+use Rattle.words.specs.inside.Writing.{bytesWritten, countLevels}
 use Rattle.words.proofs.Judged.{RecordFit, accepted-record}
 
 -- The number of bytes of a record, where it was written.

@@ -6,14 +6,13 @@ use mathlib.Core.Path.{_≡_}
 use mathlib.Core.Bool.{Bool, true, false, cond}
 use mathlib.Core.List.{List, [], _∷_}
 use Prim.Native.Nat.{ℕ}
-use lib.ListN.{take}
 use lib.Dec.{eqb}
 use Rattle.group.specs.Letters.{Word}
 use Rattle.refusals.specs.Refusals.{numberOf, placeOf}
 use Rattle.refusals.specs.Outcomes.{Outcome, accepted, refused}
 use Rattle.words.specs.declared.Comparison.{Comparison}
 use Rattle.words.specs.declared.Comparison.the-variants.{Same, Different, First, Second}
-use Rattle.words.specs.Recording.{encodeWord, Memory, judgedWith, Left, WordWritten}
+use Rattle.words.specs.Recording.{encodeWord, Memory, judgedWith, Left}
 
 -- What the call comes to.
 pub data Decision : Type 0 where
@@ -60,17 +59,3 @@ abbrev pub Compared : (word1 : List ℕ) (entry1 exit1 : Memory) (word2 : List �
     → Type 0
 Compared word1 entry1 exit1 word2 entry2 exit2 r =
     ComparedBy (judgedWith word1 entry1) (judgedWith word2 entry2) entry1 exit1 entry2 exit2 r
-
--- The answer says whether two lists are the same.
-pub record SaysSame (s t : List ℕ) (r : Bool) : Type 0 where
-  pub same-if : r ≡ true → s ≡ t
-  pub if-same : s ≡ t → r ≡ true
-
--- Both words were written: the answer is whether their records are the same.
-pub record TwoWritten (word1 : List ℕ) (entry1 exit1 : Memory) (word2 : List ℕ) (entry2 exit2 : Memory) (r : Bool)
-    : Type 0 where
-  pub first : ℕ
-  pub second : ℕ
-  pub written1 : WordWritten word1 entry1 exit1 first
-  pub written2 : WordWritten word2 entry2 exit2 second
-  pub says : SaysSame (take first (exit1 .buffer)) (take second (exit2 .buffer)) r

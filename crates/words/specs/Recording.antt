@@ -16,12 +16,8 @@ use Rattle.group.specs.Products.{formOf}
 use Rattle.refusals.specs.Outcomes.{Outcome, accepted, refused, after, then, valued, writtenOf}
 use Rattle.refusals.specs.declared.Written.{Written}
 use Rattle.records.specs.Format.{encode, bufferSize}
-use Rattle.records.specs.declared.Encoding.{Encoding}
-use Rattle.records.specs.declared.Encoding.the-variants.{Bytes, Refused, Unfit}
 use Rattle.forest.specs.Judging.{judged}
-use Rattle.forest.specs.declared.Filling.{Filling}
-use Rattle.forest.specs.declared.Filling.the-variants.{Filled, Refused as NotFilled, Unfit as NoScratch}
-use Rattle.forest.specs.Filling.{cells, room, tableAfter}
+use Rattle.forest.specs.Filling.{tableAfter}
 
 -- The record of a word.
 abbrev pub encodeWord : Word → List ℕ
@@ -64,32 +60,3 @@ pub record Left (o : Outcome Word) (entry exit : Memory) : Type 0 where
 pub record Recorded (word : List ℕ) (entry exit : Memory) (r : Written) : Type 0 where
   pub result : writtenOf r ≡ countRecord (judgedWith word entry)
   pub leaves : Left (judgedWith word entry) entry exit
-
--- The word is accepted beside its memory.
-pub record Accepts (word : List ℕ) (m : Memory) : Type 0 where
-  pub letters : Word
-  pub judged-so : judgedWith word m ≡ accepted letters
-
--- An accepted word, its memory, and scratch of the engine's sizes and any content.
-pub record Ready (word : List ℕ) (m : Memory) (lefts rights stack : List ℕ) : Type 0 where
-  pub accepts : Accepts word m
-  pub lefts-length : length lefts ≡ cells
-  pub rights-length : length rights ≡ cells
-  pub stack-length : length stack ≡ room
-
--- An accepted word was written: the answer is the number of bytes of its record.
-pub record WordWritten (word : List ℕ) (entry exit : Memory) (r : ℕ) : Type 0 where
-  pub result : accepted r ≡ countRecord (judgedWith word entry)
-  pub leaves : Left (judgedWith word entry) entry exit
-
--- The number of bytes of a record that was written.
-abbrev pub bytesWritten : Encoding → ℕ
-bytesWritten (Bytes n) = n
-bytesWritten (Refused r) = 0
-bytesWritten Unfit = 0
-
--- The number of levels that the engine read.
-abbrev pub countLevels : Filling → ℕ
-countLevels (Filled n) = n
-countLevels (NotFilled r) = 0
-countLevels NoScratch = 0

@@ -2,8 +2,9 @@
 ghost use mathlib.Core.Path.{_≡_};
 ghost use Prim.Native.Nat.{_≤_};
 ghost use lib.ListN.{length, take};
-ghost use Rattle.words.specs.Recording.{memory, bytesWritten, countLevels, Accepts, Ready, WordWritten};
-ghost use Rattle.words.specs.Comparing.{SaysSame, TwoWritten};
+ghost use Rattle.words.specs.Recording.{memory};
+ghost use Rattle.words.specs.inside.Writing.{bytesWritten, countLevels, Accepts, Ready, WordWritten};
+ghost use Rattle.words.specs.inside.Writing.{SaysSame, TwoWritten};
 use forest::Filling;
 use records::Encoding;
 

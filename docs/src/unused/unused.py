@@ -7,8 +7,7 @@ One line a finding, with its file and line, or `no unused definition`; then the 
 
 A definition is used when one of these reaches it, by names in types and in bodies:
   - a contract in src/*.rt
-  - a definition of claims/specs or geodesics/specs, a proof of claims/proofs that is `pub`, or one of
-    geodesics/proofs/Theorems.antt
+  - the theorem of all claims, calls/proofs/Claims.antt; so a claim without a field there is a finding too
   - the theorem of a function, in its Proof.antt
   - a name of the list KEPT below, which are kept on purpose
 A name that a definition binds itself, as an argument or by `let`, is not taken as a use of another definition of that
@@ -21,12 +20,6 @@ from pathlib import Path
 # What nothing uses and is kept: the crate, the file, the name, and why. The name `*` keeps a whole file.
 KEPT = [
     ("lists", "proofs/Front.antt", "*", "the law of a loop that writes a list from the left, for functions to come"),
-    ("lengths", "proofs/ConstantTable.antt", "table-symmetric", "the code's table is symmetric, as the paper's is"),
-    ("records", "proofs/Accepted.antt", "accepted↔encoded", "docs/PROOF.md cites it"),
-    ("group", "proofs/Theorems.antt", "unique-form", "docs/GLOSSARY.md cites it"),
-    ("group", "proofs/Theorems.antt", "unique-joined", "docs/GLOSSARY.md cites it"),
-    ("group", "proofs/Congruence.antt", "≈↔joined", "docs/PROOF.md cites it"),
-    ("group", "proofs/Levels.antt", "levels-joined", "docs/GLOSSARY.md cites it"),
 ]
 
 # A name, `[]`, or a dot.
@@ -281,11 +274,7 @@ def reached(edges, start):
 
 
 def is_root(f, item):
-    if f.crate in ("claims", "geodesics") and f.folder == "specs":
-        return True
-    if f.crate == "claims" and "pub " in item.mark:
-        return True
-    if f.crate == "geodesics" and f.module == "Theorems":
+    if f.key == ("calls", "proofs", "Claims"):
         return True
     return f.module.split(".")[-1] == "Proof" and item.name.endswith("-spec")
 

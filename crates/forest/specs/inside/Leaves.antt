@@ -7,7 +7,7 @@ use Rattle.lists.specs.Tables.{filled}
 use Rattle.group.specs.Forms.{Side, bSide, aSide, exponent, levels}
 use Rattle.group.specs.Products.{formOf}
 use Rattle.forest.specs.declared.row.State.{State}
-use Rattle.forest.specs.Filling.{cells, room}
+use Rattle.forest.specs.inside.Filling.{cells, room}
 use Rattle.forest.specs.inside.Forest.{Bush, rowBushes, rowOfWord, tipEdges, tipExponent, bushesBehind}
 use Rattle.forest.specs.inside.Forest.{tips, forestTips}
 use Rattle.forest.specs.inside.Cells.{Stands, StackStands}

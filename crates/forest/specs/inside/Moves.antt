@@ -8,7 +8,7 @@ use lib.Dec.{eqb}
 use Rattle.group.specs.Letters.{Letter, 'a, 'A, 'b, 'B, Word}
 use Rattle.group.specs.Limits.{limit}
 use Rattle.forest.specs.declared.row.State.{State}
-use Rattle.forest.specs.Filling.{cells, room}
+use Rattle.forest.specs.inside.Filling.{cells, room}
 use Rattle.forest.specs.inside.Forest.{Row, row, moveRow, rowOfWord}
 use Rattle.forest.specs.inside.Cells.{Stands, StackStands, Raisable}
 

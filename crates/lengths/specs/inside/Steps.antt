@@ -12,8 +12,9 @@ use lib.Dec.{ltb}
 use Rattle.lists.specs.inside.Writes.{Writing}
 use Rattle.refusals.specs.Outcomes.{Outcome, accepted, refused, then}
 use Rattle.trees.specs.Building.{treeOf}
-use Rattle.trees.specs.Pairs.{maxCarets}
-use Rattle.trees.specs.Shapes.{shapeSize, Exact}
+use Rattle.trees.specs.inside.Counting.{maxCarets}
+use Rattle.trees.specs.Shapes.{shapeSize}
+use Rattle.trees.specs.inside.ShapeReading.{Exact}
 use Rattle.trees.specs.inside.Writing.{tableCarets}
 use Rattle.lengths.specs.declared.table.CaretKind.{CaretKind}
 use Rattle.lengths.specs.declared.table.CaretKind.the-variants as Named

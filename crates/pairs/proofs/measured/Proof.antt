@@ -1,7 +1,7 @@
 -- `measured` meets its contract. Assumes nothing.
 use mathlib.Core.Path.{sym, ap}
 use borrow.Author.Needs.{needs}
-use Rattle.pairs.specs.Contracts.{lengthIn}
+use Rattle.pairs.specs.inside.Passing.{lengthIn}
 use Rattle.pairs.proofs.measured.Statement.{statement}
 use Rattle.pairs.proofs.measured.Tie as tie
 

@@ -1,7 +1,7 @@
 -- `paired` meets its contract. Assumes nothing.
 use mathlib.Core.Path.{sym, ap}
 use borrow.Author.Needs.{needs}
-use Rattle.pairs.specs.Contracts.{pairingIn}
+use Rattle.pairs.specs.inside.Passing.{pairingIn}
 use Rattle.pairs.proofs.paired.Statement.{statement}
 use Rattle.pairs.proofs.paired.Tie as tie
 

@@ -12,7 +12,8 @@ use lib.Seq.{sets}
 use Rattle.group.specs.Letters.{Word}
 use Rattle.group.specs.Bytes.{bytesOf}
 use Rattle.group.specs.Limits.{limit}
-use Rattle.spelling.specs.Runs.{Run, run, rising, falling, runLetters, spelt, distance, lettersFrom}
+use Rattle.spelling.specs.Runs.{Run, run, rising, falling, distance, lettersFrom}
+use Rattle.spelling.specs.inside.RunLetters.{runLetters, spelt}
 use Rattle.spelling.specs.declared.speller.Speller.{Speller}
 
 -- The speller behind e letters b or B of x_(k+1): the letters so far, and the letters a that are due behind them.

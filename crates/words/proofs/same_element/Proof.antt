@@ -1,5 +1,6 @@
 -- `same_element` meets its contract: both words are judged, and then written. Assumes nothing.
-use Rattle.words.specs.Recording.{Memory, memory, Accepts}
+use Rattle.words.specs.Recording.{Memory, memory}
+use Rattle.words.specs.inside.Writing.{Accepts}
 use Rattle.words.proofs.Compared.{verdict-accepts, first-refused, second-refused, both-written}
 use borrow.Author.Needs.{needs}
 use Rattle.words.proofs.same_element.Statement.{statement}

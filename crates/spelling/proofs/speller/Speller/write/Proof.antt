@@ -8,7 +8,7 @@ use borrow.Author.Needs.{needs}
 use Rattle.group.specs.Letters.{'b, 'B}
 use Rattle.group.specs.Bytes.{byteOf}
 use Rattle.group.proofs.Bytes.{bytes-length}
-use Rattle.spelling.specs.Runs.{turn}
+use Rattle.spelling.specs.inside.RunLetters.{turn}
 use Rattle.spelling.specs.declared.speller.Speller.{Speller}
 use Rattle.spelling.proofs.Lengths.{turn-length}
 use Rattle.spelling.proofs.Behind.{behind-power}
