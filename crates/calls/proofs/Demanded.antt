@@ -109,21 +109,21 @@ same-element {u} {v} {m} {m′} {k} {k′} {r} h =
 
 pub demanded : Demanded
 demanded = record {
-  word-to-record = always-below (calls .word-to-record) (λ κs u u′ b b′ a a′ s s′ r. word-to-record);
+  word-to-record = always-below (calls .word-to-record) (λ κs u u′ b b′ a a′ e e′ r. word-to-record);
   check-record = always-below (calls .check-record) (λ κs s s′ r. check-record);
   record-to-tree-pair = always-below (calls .record-to-tree-pair) (λ κs s s′ p p′ q q′ r. record-to-tree-pair);
   record-to-length = always-below (calls .record-to-length) (λ κs s s′ r. record-to-length);
   record-to-word = always-below (calls .record-to-word) (λ κs s s′ t t′ r. record-to-word);
   same-element =
-      always-below (calls .same-element) (λ κs u u′ b b′ a a′ s s′ v v′ d d′ c c′ t t′ r. same-element);
+      always-below (calls .same-element) (λ κs u u′ b b′ a a′ e e′ v v′ c c′ d d′ g g′ r. same-element);
 }
 
 -- What holds of what a call answers holds of what is read in the numbers of its export.
 pub demanded-of-exports : DemandedOfExports
 demanded-of-exports = record {
-  word-to-record = always-below (exports .word-to-record) (λ κs u u′ b b′ a a′ s s′ r h.
-      let m = memory (now b) (now a) (now s) in
-      let m′ = memory (now b′) (now a′) (now s′) in
+  word-to-record = always-below (exports .word-to-record) (λ κs u u′ b b′ a a′ e e′ r h.
+      let m = memory (now b) (now a) (now e) in
+      let m′ = memory (now b′) (now a′) (now e′) in
       let x = exports-answer-as-calls .word-to-record (now u) m m′ r h in
       subst (λ (o : Outcome ℕ). WordToRecord (now u) m m′ o) (sym (x .2)) (word-to-record (x .1)));
   check-record = always-below (exports .check-record) (λ κs s s′ r h.
@@ -139,13 +139,13 @@ demanded-of-exports = record {
   record-to-word = always-below (exports .record-to-word) (λ κs s s′ t t′ r h.
       let x = exports-answer-as-calls .record-to-word (now s) (now t) (now t′) r h in
       subst (λ (o : Outcome ℕ). RecordToWord (now s) (now t) (now t′) o) (sym (x .2)) (record-to-word (x .1)));
-  same-element = always-below (exports .same-element) (λ κs u u′ b b′ a a′ s s′ v v′ d d′ c c′ t t′ r h.
-      let m = memory (now b) (now a) (now s) in
-      let m′ = memory (now b′) (now a′) (now s′) in
-      let k = memory (now d) (now c) (now t) in
-      let k′ = memory (now d′) (now c′) (now t′) in
+  same-element = always-below (exports .same-element) (λ κs u u′ b b′ a a′ e e′ v v′ c c′ d d′ g g′ r h.
+      let m = memory (now b) (now a) (now e) in
+      let m′ = memory (now b′) (now a′) (now e′) in
+      let k = memory (now c) (now d) (now g) in
+      let k′ = memory (now c′) (now d′) (now g′) in
       let x = exports-answer-as-calls .same-element (now u) (now v) m m′ k k′ r h in
-      subst (λ (d : Decision). TwoWords (now u) m m′ (now v) k k′ d) (sym (x .2)) (same-element (x .1)));
+      subst (λ (o : Decision). TwoWords (now u) m m′ (now v) k k′ o) (sym (x .2)) (same-element (x .1)));
 }
 
 -- The record of a word is what an accepted call on it writes.
@@ -167,12 +167,12 @@ pub one-record : OneRecord
 one-record = record {
   recordOf = encodeWord;
   equal-just-when-joined = records↔joined;
-  written = always-below (calls .word-to-record) (λ κs u u′ b b′ a a′ s s′ r h w n. writes-record w n h);
-  exported = always-below (exports .word-to-record) (λ κs u u′ b b′ a a′ s s′ r h w n is e.
-      let m = memory (now b) (now a) (now s) in
-      let m′ = memory (now b′) (now a′) (now s′) in
+  written = always-below (calls .word-to-record) (λ κs u u′ b b′ a a′ e e′ r h w n. writes-record w n h);
+  exported = always-below (exports .word-to-record) (λ κs u u′ b b′ a a′ e e′ r h w n is q.
+      let m = memory (now b) (now a) (now e) in
+      let m′ = memory (now b′) (now a′) (now e′) in
       let x = exports-answer-as-calls .word-to-record (now u) m m′ r h in
-      writes-record w n (x .1) is (sym (x .2) ∙ e));
+      writes-record w n (x .1) is (sym (x .2) ∙ q));
   spelled = always-below (calls .record-to-word) (λ κs s s′ t t′ r h n. spells-record n h);
   spelled-exported = always-below (exports .record-to-word) (λ κs s s′ t t′ r h n e.
       let x = exports-answer-as-calls .record-to-word (now s) (now t) (now t′) r h in

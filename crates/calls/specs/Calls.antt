@@ -34,8 +34,8 @@ use Rattle.thompson.proofs.thompson_record_to_word as thompson-record-to-word
 -- The calls of the papers and of the receipt program.
 pub record Calls : Type 2 where
   pub word-to-record : Always word-to-record.ended word-to-record.Symbol.routine
-      (λ κs u u′ b b′ a a′ s s′ r. Recorded (now u) (memory (now b) (now a) (now s))
-      (memory (now b′) (now a′) (now s′)) r)
+      (λ κs u u′ b b′ a a′ e e′ r. Recorded (now u) (memory (now b) (now a) (now e))
+      (memory (now b′) (now a′) (now e′)) r)
   pub check-record : Always check-record.ended check-record.Symbol.routine (λ κs s s′ r. Checked (now s) r)
   pub record-to-tree-pair : Always record-to-tree-pair.ended record-to-tree-pair.Symbol.routine
       (λ κs s s′ p p′ q q′ r. Paired (now s) (now p) (now q) (now p′) (now q′) r)
@@ -44,9 +44,9 @@ pub record Calls : Type 2 where
   pub record-to-word : Always record-to-word.ended record-to-word.Symbol.routine
       (λ κs s s′ t t′ r. Spelled (now s) (now t) (now t′) r)
   pub same-element : Always same-element.ended same-element.Symbol.routine
-      (λ κs u u′ b b′ a a′ s s′ v v′ d d′ c c′ t t′ r. Compared
-      (now u) (memory (now b) (now a) (now s)) (memory (now b′) (now a′) (now s′))
-      (now v) (memory (now d) (now c) (now t)) (memory (now d′) (now c′) (now t′)) r)
+      (λ κs u u′ b b′ a a′ e e′ v v′ c c′ d d′ g g′ r. Compared
+      (now u) (memory (now b) (now a) (now e)) (memory (now b′) (now a′) (now e′))
+      (now v) (memory (now c) (now d) (now g)) (memory (now c′) (now d′) (now g′)) r)
   pub begin : Always begin.ended begin.Symbol.routine (λ κs out out′ r. Begun (now out) (now out′) r)
   pub serve : Always serve.ended serve.Symbol.routine
       (λ κs part part′ k k′ held held′ line line′ out out′ r. ServedPart (now part) k held (now line) (now out)
@@ -57,8 +57,8 @@ pub record Calls : Type 2 where
 -- The exports: the numbers of an answer that meets the contract of the call.
 pub record Exports : Type 2 where
   pub word-to-record : Always thompson-word-to-record.ended thompson-word-to-record.Symbol.routine
-      (λ κs u u′ b b′ a a′ s s′ r. Passed (λ x. codeOf (writtenOf x))
-      (Recorded (now u) (memory (now b) (now a) (now s)) (memory (now b′) (now a′) (now s′))) r)
+      (λ κs u u′ b b′ a a′ e e′ r. Passed (λ x. codeOf (writtenOf x))
+      (Recorded (now u) (memory (now b) (now a) (now e)) (memory (now b′) (now a′) (now e′))) r)
   pub check-record : Always thompson-check-record.ended thompson-check-record.Symbol.routine
       (λ κs s s′ r. Passed (λ x. codeOf (verdictOf x)) (Checked (now s)) r)
   pub record-to-tree-pair : Always thompson-record-to-tree-pair.ended thompson-record-to-tree-pair.Symbol.routine
@@ -68,6 +68,6 @@ pub record Exports : Type 2 where
   pub record-to-word : Always thompson-record-to-word.ended thompson-record-to-word.Symbol.routine
       (λ κs s s′ t t′ r. Passed (λ x. codeOf (writtenOf x)) (Spelled (now s) (now t) (now t′)) r)
   pub same-element : Always thompson-same-element.ended thompson-same-element.Symbol.routine
-      (λ κs u u′ b b′ a a′ s s′ v v′ d d′ c c′ t t′ r. Passed (λ x. codeOfDecision (decisionOf x)) (Compared
-      (now u) (memory (now b) (now a) (now s)) (memory (now b′) (now a′) (now s′))
-      (now v) (memory (now d) (now c) (now t)) (memory (now d′) (now c′) (now t′))) r)
+      (λ κs u u′ b b′ a a′ e e′ v v′ c c′ d d′ g g′ r. Passed (λ x. codeOfDecision (decisionOf x)) (Compared
+      (now u) (memory (now b) (now a) (now e)) (memory (now b′) (now a′) (now e′))
+      (now v) (memory (now c) (now d) (now g)) (memory (now c′) (now d′) (now g′))) r)

@@ -3,8 +3,9 @@
 -- quotes the demands as they were set. proofs/Demanded.antt has the proofs.
 --     Always T f R      every call of the function f, on any arguments, returns, with R of its arguments as they were
 --                       and as they are at exit, and of its answer; nothing is asked of the caller
--- Letters: u, v bytes lent as a word; w, x words; s bytes lent as a record; m, k memory lent with a word (b table, a
--- table, record buffer); p, q buffers for shapes; t a buffer for letters; o an outcome; a ′ marks the same at exit.
+-- Letters: u, v bytes lent as a word; w, x words; s bytes lent as a record; m, k memory lent with a word: b table, a
+-- table and record buffer, which are b, a, e of the first word and c, d, g of the second; p, q buffers for shapes; t a
+-- buffer for letters; r an answer, o an outcome or a decision; a ′ marks the same at exit.
 -- The names used, what each is, and the crate and file of its specs that define it:
 --     now x                       the elements of the slice behind the reference x                the kit, Denote/Ref
 --     writtenOf, verdictOf        an answer as accepted n, or as refused with number and place    refusals, Outcomes
@@ -55,40 +56,45 @@ use Rattle.thompson.proofs.thompson_record_to_tree_pair as thompson-record-to-t
 use Rattle.thompson.proofs.thompson_record_to_length as thompson-record-to-length
 use Rattle.thompson.proofs.thompson_record_to_word as thompson-record-to-word
 
--- What demands 1 (`refuses`, `unaltered`) and 2 (`gives`) say of one call.
+-- What demands 1 (`refuses`, `unaltered`) and 2 (`gives`, `accepts`) say of one call. Word to record.
 pub record WordToRecord (u : List ℕ) (m m′ : Memory) (o : Outcome ℕ) : Type 0 where
   pub refuses : Refuses o (WordRefusal u m)
   pub unaltered : IsRefused o → m′ ≡ m
   pub gives : (n : ℕ) → o ≡ accepted n → (w : Word) × (u ≡ bytesOf w) × RecordOfWord m m′ n w
 
+-- Record check; nothing is lent to write to.
 pub record CheckRecord (s : List ℕ) (o : Outcome ℕ) : Type 0 where
   pub refuses : Refuses o (RecordRefusal s)
   pub accepts : IsAccepted o ↔ ((f : Form) × IsRecord s f)
 
+-- Record to tree pair.
 pub record RecordToTreePair (s p q p′ q′ : List ℕ) (o : Outcome ℕ) : Type 0 where
   pub refuses : Refuses o (PairRefusal s (length p) (length q))
   pub unaltered : IsRefused o → (p′ ≡ p) × (q′ ≡ q)
   pub gives : (n : ℕ) → o ≡ accepted n → PairOfRecord s p q p′ q′ n
 
+-- Record to length; nothing is lent to write to.
 pub record RecordToLength (s : List ℕ) (o : Outcome ℕ) : Type 0 where
   pub refuses : Refuses o (RecordRefusal s)
   pub gives : (n : ℕ) → o ≡ accepted n → LengthOfRecord s n
 
+-- Record to word; what is given is said of every record, also where 8 or 7 is met.
 pub record RecordToWord (s t t′ : List ℕ) (o : Outcome ℕ) : Type 0 where
   pub refuses : Refuses o (SpellingRefusal s (length t))
   pub unaltered : IsRefused o → t′ ≡ t
   pub gives : None (RecordRefusal s) → WordOfRecord s t t′ o
 
-pub record TwoWords (u : List ℕ) (m m′ : Memory) (v : List ℕ) (k k′ : Memory) (d : Decision) : Type 0 where
-  pub refuses : RefusesWords d (WordRefusal u m) (WordRefusal v k)
-  pub unaltered : WordRefused d → (m′ ≡ m) × (k′ ≡ k)
-  pub gives : Answered d → VerdictOfWords u m m′ v k k′ d
+-- Two words; what is given says demand 3 of the verdict.
+pub record TwoWords (u : List ℕ) (m m′ : Memory) (v : List ℕ) (k k′ : Memory) (o : Decision) : Type 0 where
+  pub refuses : RefusesWords o (WordRefusal u m) (WordRefusal v k)
+  pub unaltered : WordRefused o → (m′ ≡ m) × (k′ ≡ k)
+  pub gives : Answered o → VerdictOfWords u m m′ v k k′ o
 
 -- Demands 1 and 2 of the six functions.
 pub record Demanded : Type 2 where
   pub word-to-record : Always word-to-record.ended word-to-record.Symbol.routine
-      (λ κs u u′ b b′ a a′ s s′ r. WordToRecord (now u) (memory (now b) (now a) (now s))
-      (memory (now b′) (now a′) (now s′)) (writtenOf r))
+      (λ κs u u′ b b′ a a′ e e′ r. WordToRecord (now u) (memory (now b) (now a) (now e))
+      (memory (now b′) (now a′) (now e′)) (writtenOf r))
   pub check-record : Always check-record.ended check-record.Symbol.routine
       (λ κs s s′ r. CheckRecord (now s) (verdictOf r))
   pub record-to-tree-pair : Always record-to-tree-pair.ended record-to-tree-pair.Symbol.routine
@@ -98,15 +104,15 @@ pub record Demanded : Type 2 where
   pub record-to-word : Always record-to-word.ended record-to-word.Symbol.routine
       (λ κs s s′ t t′ r. RecordToWord (now s) (now t) (now t′) (writtenOf r))
   pub same-element : Always same-element.ended same-element.Symbol.routine
-      (λ κs u u′ b b′ a a′ s s′ v v′ d d′ c c′ t t′ r. TwoWords
-      (now u) (memory (now b) (now a) (now s)) (memory (now b′) (now a′) (now s′))
-      (now v) (memory (now d) (now c) (now t)) (memory (now d′) (now c′) (now t′)) (decisionOf r))
+      (λ κs u u′ b b′ a a′ e e′ v v′ c c′ d d′ g g′ r. TwoWords
+      (now u) (memory (now b) (now a) (now e)) (memory (now b′) (now a′) (now e′))
+      (now v) (memory (now c) (now d) (now g)) (memory (now c′) (now d′) (now g′)) (decisionOf r))
 
 -- The same of the exports.
 pub record DemandedOfExports : Type 2 where
   pub word-to-record : Always thompson-word-to-record.ended thompson-word-to-record.Symbol.routine
-      (λ κs u u′ b b′ a a′ s s′ r. WordToRecord (now u) (memory (now b) (now a) (now s))
-      (memory (now b′) (now a′) (now s′)) (outcomeOf r))
+      (λ κs u u′ b b′ a a′ e e′ r. WordToRecord (now u) (memory (now b) (now a) (now e))
+      (memory (now b′) (now a′) (now e′)) (outcomeOf r))
   pub check-record : Always thompson-check-record.ended thompson-check-record.Symbol.routine
       (λ κs s s′ r. CheckRecord (now s) (outcomeOf r))
   pub record-to-tree-pair : Always thompson-record-to-tree-pair.ended thompson-record-to-tree-pair.Symbol.routine
@@ -116,9 +122,9 @@ pub record DemandedOfExports : Type 2 where
   pub record-to-word : Always thompson-record-to-word.ended thompson-record-to-word.Symbol.routine
       (λ κs s s′ t t′ r. RecordToWord (now s) (now t) (now t′) (outcomeOf r))
   pub same-element : Always thompson-same-element.ended thompson-same-element.Symbol.routine
-      (λ κs u u′ b b′ a a′ s s′ v v′ d d′ c c′ t t′ r. TwoWords
-      (now u) (memory (now b) (now a) (now s)) (memory (now b′) (now a′) (now s′))
-      (now v) (memory (now d) (now c) (now t)) (memory (now d′) (now c′) (now t′)) (decisionIn r))
+      (λ κs u u′ b b′ a a′ e e′ v v′ c c′ d d′ g g′ r. TwoWords
+      (now u) (memory (now b) (now a) (now e)) (memory (now b′) (now a′) (now e′))
+      (now v) (memory (now c) (now d) (now g)) (memory (now c′) (now d′) (now g′)) (decisionIn r))
 
 -- Demand 3: every word has one record, which each accepted call on it writes, whatever the lent memory held; and two
 -- words of at most as many letters as the limit have the same record just when a chain joins them. The word that is
@@ -127,12 +133,12 @@ pub record OneRecord : Type 2 where
   pub recordOf : Word → List ℕ
   pub equal-just-when-joined : (w x : Word) → length w ≤ limit → length x ≤ limit
       → (recordOf w ≡ recordOf x) ↔ Joined w x
-  pub written : Always word-to-record.ended word-to-record.Symbol.routine (λ κs u u′ b b′ a a′ s s′ r.
+  pub written : Always word-to-record.ended word-to-record.Symbol.routine (λ κs u u′ b b′ a a′ e e′ r.
       (w : Word) (n : ℕ) → now u ≡ bytesOf w → writtenOf r ≡ accepted n
-      → (length w ≤ limit) × (take n (now s′) ≡ recordOf w))
+      → (length w ≤ limit) × (take n (now e′) ≡ recordOf w))
   pub exported : Always thompson-word-to-record.ended thompson-word-to-record.Symbol.routine
-      (λ κs u u′ b b′ a a′ s s′ r. (w : Word) (n : ℕ) → now u ≡ bytesOf w → outcomeOf r ≡ accepted n
-      → (length w ≤ limit) × (take n (now s′) ≡ recordOf w))
+      (λ κs u u′ b b′ a a′ e e′ r. (w : Word) (n : ℕ) → now u ≡ bytesOf w → outcomeOf r ≡ accepted n
+      → (length w ≤ limit) × (take n (now e′) ≡ recordOf w))
   pub spelled : Always record-to-word.ended record-to-word.Symbol.routine (λ κs s s′ t t′ r.
       (n : ℕ) → writtenOf r ≡ accepted n
       → (x : Word) × (take n (now t′) ≡ bytesOf x) × (length x ≤ limit) × (recordOf x ≡ now s))

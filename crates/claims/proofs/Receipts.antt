@@ -16,7 +16,7 @@ use Rattle.receipts.proofs.Lines.{receipt-cut, closed, closed-then, served-line
 use Rattle.receipts.proofs.Bounds.{served-bounds}
 use Rattle.receipts.proofs.Calls.{placed-front, finish-front, serve-front}
 use Rattle.claims.specs.Receipts.{LinesOfBytes, LinesInParts, ServesMetLines, CutKeepsReceipt}
-use Rattle.claims.specs.Receipts.{ServeCall, Run, ReceiptsOfInput}
+use Rattle.claims.specs.Receipts.{ServeCall, CallsOfRun, ReceiptsOfInput}
 
 -- The two parts of the claim on lines.
 pub lines-of-bytes : LinesOfBytes
@@ -62,7 +62,7 @@ part-closed {part} {k} {held} {line} {line′} {s} first rest whole c few size e
 
 -- What the calls of a run write.
 run-closed : (parts : List (List ℕ)) (k held : ℕ) (line bytes : List ℕ) → k < 2 ^ 64 → length line ≡ lineSize
-    → Run parts k held line bytes → bytes ≡ closed (served (wholeOf parts) k line held)
+    → CallsOfRun parts k held line bytes → bytes ≡ closed (served (wholeOf parts) k line held)
 unfolding served
 run-closed [] k held line bytes few size h = h .wrote ∙ finish-front k held line (h .contract) few size (h .taken)
 run-closed (part ∷ parts) k held line bytes few size (s, line′, first, rest, c, run, e) =

@@ -74,11 +74,11 @@ pub record FinishCall (number held : ℕ) (line bytes : List ℕ) : Type 0 where
 
 -- The calls of a run, one for each part of an input and `finish` behind the last: each is handed the number, the count
 -- and the line buffer as the call before left them. `bytes` is what they wrote, one behind another.
-abbrev pub Run : (parts : List (List ℕ)) (number held : ℕ) (line bytes : List ℕ) → Type 0
-Run [] number held line bytes = FinishCall number held line bytes
-Run (part ∷ parts) number held line bytes =
+abbrev pub CallsOfRun : (parts : List (List ℕ)) (number held : ℕ) (line bytes : List ℕ) → Type 0
+CallsOfRun [] number held line bytes = FinishCall number held line bytes
+CallsOfRun (part ∷ parts) number held line bytes =
     (s : Served) × (line′ : List ℕ) × (first : List ℕ) × (rest : List ℕ)
-    × ServeCall part number held line s line′ first × Run parts (s .number) (s .held) line′ rest
+    × ServeCall part number held line s line′ first × CallsOfRun parts (s .number) (s .held) line′ rest
     × (bytes ≡ first ++ rest)
 
 -- However an input of fewer than 2^64 bytes is parted, and whatever the buffers held: the header and what the calls of
@@ -87,5 +87,5 @@ abbrev pub ReceiptsOfInput : Type 0
 ReceiptsOfInput =
     (parts : List (List ℕ)) (line out out′ bytes : List ℕ) (r : Written) (n : ℕ)
     → length line ≡ limit + 1 → length (wholeOf parts) < 2 ^ 64
-    → Begun out out′ r → writtenOf r ≡ accepted n → Run parts 1 0 line bytes
+    → Begun out out′ r → writtenOf r ≡ accepted n → CallsOfRun parts 1 0 line bytes
     → take n out′ ++ bytes ≡ outputOf (wholeOf parts)

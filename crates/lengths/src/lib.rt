@@ -15,7 +15,8 @@ mod table;
 const MAX_SHAPE: usize = 2 * MAX_CARETS + 1;
 
 // A pair of at most so many carets is weighed in short arrays: to clear long ones takes longer than to weigh it. They
-// are tried where the first table has at most so many entries: to count the carets of longer tables in vain takes longer.
+// are tried where the first table has at most so many entries, since to count the carets of longer tables in vain takes
+// longer.
 const SMALL: usize = 64;
 
 // The bytes of the shape of a tree of SMALL carets.
