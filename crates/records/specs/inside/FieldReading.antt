@@ -34,8 +34,8 @@ abbrev pub fieldEnd : List ℕ → (at tag : ℕ) → ℕ
 fieldEnd s at tag = endOf s at (fieldAt s at tag)
 
 -- The frame of two fields: both stand, the second ends where the bytes end, and neither body ends amid an entry.
-abbrev pub framedBy : (b a : Field) (end length : ℕ) → Frame
-framedBy (Body n) (Body m) end length =
-    cond (both (eqb end length) (both (eqb (n % 4) 0) (eqb (m % 4) 0))) (Exact n m) Broken
-framedBy (Body n) Missing end length = Broken
-framedBy Missing a end length = Broken
+abbrev pub framedBy : (b a : Field) (end size : ℕ) → Frame
+framedBy (Body n) (Body m) end size =
+    cond (both (eqb end size) (both (eqb (n % 4) 0) (eqb (m % 4) 0))) (Exact n m) Broken
+framedBy (Body n) Missing end size = Broken
+framedBy Missing a end size = Broken
