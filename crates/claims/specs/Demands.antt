@@ -1,12 +1,13 @@
 -- Demands 1, 2 and 3 on the six calls, over the calls' contracts; proofs/Demands.antt has the proofs. The demands as
 -- they were set are quoted in docs/DECISIONS.md. crates/calls/specs/Demanded.antt says the same of the functions, with
--- no contract in it. What need not be believed: contracts (the first group below) stand left of the arrows only. Each
--- function is proved to meet its contract (crate `calls`), so a reader has to believe what stands on the right, and the
--- order in which a function's `ensures` hands its arguments to the contract. The six calls are those of 01; the
--- functions inside that may answer `Unfit` are never asked what they have no answer for, and no answer of the six has
--- such a case. Letters: u, v bytes lent as a word; w, x words; s bytes lent as a record; m, k memory lent with a word;
--- p, q buffers for shapes; t a buffer for letters; f, g a form or a call; a ′ marks the same memory at exit. Contracts,
--- and the crate and file that define each:
+-- no contract in it.
+-- What need not be believed: contracts (the first group below) stand left of the arrows only. Each function is proved
+-- to meet its contract (crate `calls`), so a reader has to believe what stands on the right, and the order in which a
+-- function's `ensures` hands its arguments to the contract. The demands bind the six calls of 01, their exports too.
+-- `Unfit`, which functions inside may answer, is met by none of them.
+-- Letters: u, v bytes lent as a word; w, x words; s bytes lent as a record; m, k memory lent with a word; p, q buffers
+-- for shapes; t a buffer for letters; f, g a form or a call; a ′ marks the same memory at exit.
+-- Contracts, and the crate and file that define each:
 --     Recorded u m m′ r           word_to_record                                                  words, Recording
 --     Checked s r                 check_record                                                    records, Checking
 --     Paired s p q p′ q′ r        record_to_tree_pair                                             pairs, Contracts
