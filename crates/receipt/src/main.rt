@@ -104,17 +104,22 @@ fn take_all(part: &mut [u8], line: &mut [u8; LINE], out: &mut [u8]) -> Turn {
     t
 }
 
+// The header, then the receipts of all parts, then that of a line that has no end.
+fn run(part: &mut [u8; PART], line: &mut [u8; LINE], out: &mut [u8; OUTPUT]) {
+    let begun = receipts::begin(out);
+    if !write_placed(out, begun) {
+        return;
+    }
+    let end = take_all(part, line, out);
+    if end.well {
+        let finished = receipts::finish(end.number, end.held, line, out);
+        write_placed(out, finished);
+    }
+}
+
 fn main() {
     let mut part = [0u8; PART];
     let mut line = [0u8; LINE];
     let mut out = [0u8; OUTPUT];
-    let begun = receipts::begin(&mut out);
-    if !write_placed(&out, begun) {
-        return;
-    }
-    let end = take_all(&mut part, &mut line, &mut out);
-    if end.well {
-        let finished = receipts::finish(end.number, end.held, &line, &mut out);
-        write_placed(&out, finished);
-    }
+    run(&mut part, &mut line, &mut out);
 }
