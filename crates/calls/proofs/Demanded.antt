@@ -8,16 +8,14 @@ use lib.ListN.{length, take}
 use Rattle.group.specs.Letters.{Word}
 use Rattle.group.specs.Bytes.{bytesOf}
 use Rattle.group.specs.Limits.{limit}
-use Rattle.refusals.specs.Outcomes.{Outcome, accepted, verdictOf, writtenOf}
+use Rattle.refusals.specs.Outcomes.{Outcome, accepted, verdictOf, replyOf}
 use Rattle.refusals.specs.declared.Verdict.{Verdict}
-use Rattle.refusals.specs.declared.Written.{Written}
+use Rattle.refusals.specs.declared.Reply.{Reply}
 use Rattle.records.specs.Checking.{Checked}
 use Rattle.words.specs.Recording.{Memory, memory, encodeWord, Recorded}
 use Rattle.words.specs.Comparing.{Decision, decisionOf, Compared}
 use Rattle.words.specs.declared.Comparison.{Comparison}
-use Rattle.pairs.specs.Contracts.{treePairOf, wordLengthOf, Paired, Measured}
-use Rattle.pairs.specs.declared.TreePair.{TreePair}
-use Rattle.pairs.specs.declared.WordLength.{WordLength}
+use Rattle.pairs.specs.Contracts.{Paired, Measured}
 use Rattle.spelling.specs.Contracts.{Spelled}
 use Rattle.spelling.specs.Spelling.{spelling}
 use Rattle.claims.specs.Answers.{Answered}
@@ -34,7 +32,7 @@ use Rattle.calls.proofs.Always.{always-below}
 use Rattle.calls.proofs.Calls.{calls, exports}
 
 -- Demands 1 and 2 of a call that ends with its contract.
-word-to-record : {u : List ℕ} {m m′ : Memory} {r : Written} → Recorded u m m′ r → WordToRecord u m m′ (writtenOf r)
+word-to-record : {u : List ℕ} {m m′ : Memory} {r : Reply} → Recorded u m m′ r → WordToRecord u m m′ (replyOf r)
 word-to-record {u} {m} {m′} {r} h =
     let first = demand1 .word-to-record u m m′ r h in
     record {
@@ -47,8 +45,8 @@ check-record : {s : List ℕ} {r : Verdict} → Checked s r → CheckRecord s (v
 check-record {s} {r} h =
     record { refuses = demand1 .check-record s r h; accepts = demand1 .accepted-record s r h }
 
-record-to-tree-pair : {s p q p′ q′ : List ℕ} {r : TreePair} → Paired s p q p′ q′ r
-    → RecordToTreePair s p q p′ q′ (treePairOf r)
+record-to-tree-pair : {s p q p′ q′ : List ℕ} {r : Reply} → Paired s p q p′ q′ r
+    → RecordToTreePair s p q p′ q′ (replyOf r)
 record-to-tree-pair {s} {p} {q} {p′} {q′} {r} h =
     let first = demand1 .record-to-tree-pair s p q p′ q′ r h in
     record {
@@ -66,13 +64,13 @@ record-to-tree-pair {s} {p} {q} {p′} {q′} {r} h =
       });
     }
 
-record-to-length : {s : List ℕ} {r : WordLength} → Measured s r → RecordToLength s (wordLengthOf r)
+record-to-length : {s : List ℕ} {r : Reply} → Measured s r → RecordToLength s (replyOf r)
 record-to-length {s} {r} h = record {
   refuses = demand1 .record-to-length s r h;
   gives = λ n e. demand2 .gives-length s (record { answer = r; count = n; contract = h; taken = e });
 }
 
-record-to-word : {s t t′ : List ℕ} {r : Written} → Spelled s t t′ r → RecordToWord s t t′ (writtenOf r)
+record-to-word : {s t t′ : List ℕ} {r : Reply} → Spelled s t t′ r → RecordToWord s t t′ (replyOf r)
 record-to-word {s} {t} {t′} {r} h =
     let first = demand1 .record-to-word s t t′ r h in
     record { refuses = first .0; unaltered = first .1; gives = demand2 .gives-word s t t′ r h }
@@ -149,14 +147,14 @@ demanded-of-exports = record {
 }
 
 -- The record of a word is what an accepted call on it writes.
-writes-record : {u : List ℕ} {m m′ : Memory} {r : Written} (w : Word) (n : ℕ) → Recorded u m m′ r
-    → u ≡ bytesOf w → writtenOf r ≡ accepted n → (length w ≤ limit) × (take n (m′ .buffer) ≡ encodeWord w)
+writes-record : {u : List ℕ} {m m′ : Memory} {r : Reply} (w : Word) (n : ℕ) → Recorded u m m′ r
+    → u ≡ bytesOf w → replyOf r ≡ accepted n → (length w ≤ limit) × (take n (m′ .buffer) ≡ encodeWord w)
 writes-record {u} {m} w n h b e =
     let call = call-front {w = w} h e b in
     (judged-within u m w (call .judged-so), call .front)
 
 -- The word that is written for a record has that record.
-spells-record : {s t t′ : List ℕ} {r : Written} (n : ℕ) → Spelled s t t′ r → writtenOf r ≡ accepted n
+spells-record : {s t t′ : List ℕ} {r : Reply} (n : ℕ) → Spelled s t t′ r → replyOf r ≡ accepted n
     → (x : Word) × (take n t′ ≡ bytesOf x) × (length x ≤ limit) × (encodeWord x ≡ s)
 spells-record n h e =
     let f = spelled-as h e in

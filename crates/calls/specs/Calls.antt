@@ -6,11 +6,11 @@
 --     Exports   the calls for C and Rust
 -- Assumes nothing.
 use denote.Ref.{now}
-use Rattle.refusals.specs.Outcomes.{verdictOf, writtenOf}
+use Rattle.refusals.specs.Outcomes.{verdictOf, replyOf}
 use Rattle.records.specs.Checking.{Checked}
 use Rattle.words.specs.Recording.{memory, Recorded}
 use Rattle.words.specs.Comparing.{Compared, decisionOf}
-use Rattle.pairs.specs.Contracts.{Paired, Measured, treePairOf, wordLengthOf}
+use Rattle.pairs.specs.Contracts.{Paired, Measured}
 use Rattle.spelling.specs.Contracts.{Spelled}
 use Rattle.receipts.specs.Contracts.{Begun, ServedPart, Finished}
 use Rattle.thompson.specs.Codes.{codeOf, codeOfDecision, Passed}
@@ -57,16 +57,16 @@ pub record Calls : Type 2 where
 -- The exports: the numbers of an answer that meets the contract of the call.
 pub record Exports : Type 2 where
   pub word-to-record : Always thompson-word-to-record.ended thompson-word-to-record.Symbol.routine
-      (λ κs u u′ b b′ a a′ e e′ r. Passed (λ x. codeOf (writtenOf x))
+      (λ κs u u′ b b′ a a′ e e′ r. Passed (λ x. codeOf (replyOf x))
       (Recorded (now u) (memory (now b) (now a) (now e)) (memory (now b′) (now a′) (now e′))) r)
   pub check-record : Always thompson-check-record.ended thompson-check-record.Symbol.routine
       (λ κs s s′ r. Passed (λ x. codeOf (verdictOf x)) (Checked (now s)) r)
   pub record-to-tree-pair : Always thompson-record-to-tree-pair.ended thompson-record-to-tree-pair.Symbol.routine
-      (λ κs s s′ p p′ q q′ r. Passed (λ x. codeOf (treePairOf x)) (Paired (now s) (now p) (now q) (now p′) (now q′)) r)
+      (λ κs s s′ p p′ q q′ r. Passed (λ x. codeOf (replyOf x)) (Paired (now s) (now p) (now q) (now p′) (now q′)) r)
   pub record-to-length : Always thompson-record-to-length.ended thompson-record-to-length.Symbol.routine
-      (λ κs s s′ r. Passed (λ x. codeOf (wordLengthOf x)) (Measured (now s)) r)
+      (λ κs s s′ r. Passed (λ x. codeOf (replyOf x)) (Measured (now s)) r)
   pub record-to-word : Always thompson-record-to-word.ended thompson-record-to-word.Symbol.routine
-      (λ κs s s′ t t′ r. Passed (λ x. codeOf (writtenOf x)) (Spelled (now s) (now t) (now t′)) r)
+      (λ κs s s′ t t′ r. Passed (λ x. codeOf (replyOf x)) (Spelled (now s) (now t) (now t′)) r)
   pub same-element : Always thompson-same-element.ended thompson-same-element.Symbol.routine
       (λ κs u u′ b b′ a a′ e e′ v v′ c c′ d d′ g g′ r. Passed (λ x. codeOfDecision (decisionOf x)) (Compared
       (now u) (memory (now b) (now a) (now e)) (memory (now b′) (now a′) (now e′))

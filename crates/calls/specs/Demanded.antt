@@ -8,8 +8,7 @@
 -- buffer for letters; r an answer, o an outcome or a decision; a ′ marks the same at exit.
 -- The names used, what each is, and the crate and file of its specs that define it:
 --     now x                       the elements of the slice behind the reference x                the kit, Denote/Ref
---     writtenOf, verdictOf        an answer as accepted n, or as refused with number and place    refusals, Outcomes
---     treePairOf, wordLengthOf    the same                                                        pairs, Contracts
+--     replyOf, verdictOf          an answer as accepted n, or as refused with number and place    refusals, Outcomes
 --     decisionOf                  an answer as same, different, or a refusal of word 0 or 1       words, Comparing
 --     outcomeOf, decisionIn       the same of the two numbers that an export answers              thompson, Codes
 --     Refuses o R                 each refusal is o just when its condition R holds               claims, Answers
@@ -33,11 +32,10 @@ use Rattle.group.specs.Bytes.{bytesOf}
 use Rattle.group.specs.Chains.{Joined}
 use Rattle.group.specs.Forms.{Form}
 use Rattle.group.specs.Limits.{limit}
-use Rattle.refusals.specs.Outcomes.{Outcome, accepted, verdictOf, writtenOf}
+use Rattle.refusals.specs.Outcomes.{Outcome, accepted, verdictOf, replyOf}
 use Rattle.records.specs.Format.{IsRecord}
 use Rattle.words.specs.Recording.{Memory, memory}
 use Rattle.words.specs.Comparing.{Decision, decisionOf}
-use Rattle.pairs.specs.Contracts.{treePairOf, wordLengthOf}
 use Rattle.thompson.specs.Codes.{outcomeOf, decisionIn}
 use Rattle.claims.specs.Answers.{Refuses, IsRefused, IsAccepted, RefusesWords, WordRefused, Answered, None}
 use Rattle.claims.specs.Refusals.{WordRefusal, RecordRefusal, PairRefusal, SpellingRefusal}
@@ -94,15 +92,15 @@ pub record TwoWords (u : List ℕ) (m m′ : Memory) (v : List ℕ) (k k′ : Me
 pub record Demanded : Type 2 where
   pub word-to-record : Always word-to-record.ended word-to-record.Symbol.routine
       (λ κs u u′ b b′ a a′ e e′ r. WordToRecord (now u) (memory (now b) (now a) (now e))
-      (memory (now b′) (now a′) (now e′)) (writtenOf r))
+      (memory (now b′) (now a′) (now e′)) (replyOf r))
   pub check-record : Always check-record.ended check-record.Symbol.routine
       (λ κs s s′ r. CheckRecord (now s) (verdictOf r))
   pub record-to-tree-pair : Always record-to-tree-pair.ended record-to-tree-pair.Symbol.routine
-      (λ κs s s′ p p′ q q′ r. RecordToTreePair (now s) (now p) (now q) (now p′) (now q′) (treePairOf r))
+      (λ κs s s′ p p′ q q′ r. RecordToTreePair (now s) (now p) (now q) (now p′) (now q′) (replyOf r))
   pub record-to-length : Always record-to-length.ended record-to-length.Symbol.routine
-      (λ κs s s′ r. RecordToLength (now s) (wordLengthOf r))
+      (λ κs s s′ r. RecordToLength (now s) (replyOf r))
   pub record-to-word : Always record-to-word.ended record-to-word.Symbol.routine
-      (λ κs s s′ t t′ r. RecordToWord (now s) (now t) (now t′) (writtenOf r))
+      (λ κs s s′ t t′ r. RecordToWord (now s) (now t) (now t′) (replyOf r))
   pub same-element : Always same-element.ended same-element.Symbol.routine
       (λ κs u u′ b b′ a a′ e e′ v v′ c c′ d d′ g g′ r. TwoWords
       (now u) (memory (now b) (now a) (now e)) (memory (now b′) (now a′) (now e′))
@@ -134,13 +132,13 @@ pub record OneRecord : Type 2 where
   pub equal-just-when-joined : (w x : Word) → length w ≤ limit → length x ≤ limit
       → (recordOf w ≡ recordOf x) ↔ Joined w x
   pub written : Always word-to-record.ended word-to-record.Symbol.routine (λ κs u u′ b b′ a a′ e e′ r.
-      (w : Word) (n : ℕ) → now u ≡ bytesOf w → writtenOf r ≡ accepted n
+      (w : Word) (n : ℕ) → now u ≡ bytesOf w → replyOf r ≡ accepted n
       → (length w ≤ limit) × (take n (now e′) ≡ recordOf w))
   pub exported : Always thompson-word-to-record.ended thompson-word-to-record.Symbol.routine
       (λ κs u u′ b b′ a a′ e e′ r. (w : Word) (n : ℕ) → now u ≡ bytesOf w → outcomeOf r ≡ accepted n
       → (length w ≤ limit) × (take n (now e′) ≡ recordOf w))
   pub spelled : Always record-to-word.ended record-to-word.Symbol.routine (λ κs s s′ t t′ r.
-      (n : ℕ) → writtenOf r ≡ accepted n
+      (n : ℕ) → replyOf r ≡ accepted n
       → (x : Word) × (take n (now t′) ≡ bytesOf x) × (length x ≤ limit) × (recordOf x ≡ now s))
   pub spelled-exported : Always thompson-record-to-word.ended thompson-record-to-word.Symbol.routine
       (λ κs s s′ t t′ r. (n : ℕ) → outcomeOf r ≡ accepted n

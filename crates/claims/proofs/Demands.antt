@@ -8,9 +8,9 @@ use Rattle.group.specs.Letters.{Word}
 use Rattle.group.specs.Bytes.{bytesOf}
 use Rattle.group.specs.Chains.{Joined}
 use Rattle.group.specs.Forms.{Form}
-use Rattle.refusals.specs.Outcomes.{writtenOf, verdictOf}
+use Rattle.refusals.specs.Outcomes.{replyOf, verdictOf}
 use Rattle.refusals.specs.declared.Verdict.{Verdict}
-use Rattle.refusals.specs.declared.Written.{Written}
+use Rattle.refusals.specs.declared.Reply.{Reply}
 use Rattle.records.specs.Format.{IsRecord}
 use Rattle.records.specs.Reading.{decode}
 use Rattle.records.specs.Checking.{Checked}
@@ -18,7 +18,7 @@ use Rattle.lengths.specs.Weights.{formLength}
 use Rattle.words.specs.Recording.{Memory, encodeWord, judgedWith, Recorded}
 use Rattle.words.specs.Comparing.{decisionOf, same, different}
 use Rattle.thompson.specs.Codes.{readOutcome, outcomeOf}
-use Rattle.thompson.proofs.Codes.{written-read}
+use Rattle.thompson.proofs.Codes.{reply-read}
 use Rattle.claims.specs.Refusals.{WordRefusal, RecordRefusal}
 use Rattle.claims.specs.Answers.{IsRefused, IsAccepted, Refuses}
 use Rattle.claims.specs.Calls.{WordCall, recordBy, SpellingCall, spelledBy, TwoWordCall, ExportedCall}
@@ -34,8 +34,8 @@ use Rattle.claims.proofs.SpellingCalls.{spelling-refused, spelled-as, w
 use Rattle.claims.proofs.SpellingCalls.{joined-spelling, spelling-sent, spelling-again}
 
 -- Word to record refuses as the word is judged, and then leaves everything.
-word-refused : {u : List ℕ} {m m′ : Memory} {r : Written} → Recorded u m m′ r
-    → Refuses (writtenOf r) (WordRefusal u m) × (IsRefused (writtenOf r) → m′ ≡ m)
+word-refused : {u : List ℕ} {m m′ : Memory} {r : Reply} → Recorded u m m′ r
+    → Refuses (replyOf r) (WordRefusal u m) × (IsRefused (replyOf r) → m′ ≡ m)
 word-refused {u} {m} h = (
   refuses-when (λ w. length (encodeWord w)) (judgedWith u m) (h .result) (WordRefusal u m) (judged↔refusal u m),
   (λ x.
@@ -76,7 +76,7 @@ passed-on f = record {
   count = f .answer .value;
   contract = f .contract .meets;
   taken =
-      sym (written-read (f .contract .passed))
+      sym (reply-read (f .contract .passed))
       ∙ sym (ap outcomeOf (f .contract .numbers))
       ∙ ap (λ (n : ℕ). readOutcome n (f .answer .value)) (f .taken);
 }

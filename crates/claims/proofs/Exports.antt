@@ -1,17 +1,17 @@
 -- The claims of specs/Exports.antt, proved: the numbers of an answer are read back as what it says. Assumes nothing.
 use mathlib.Core.Path.{ap, _∙_}
 use Rattle.thompson.specs.Codes.{outcomeOf, decisionIn}
-use Rattle.thompson.proofs.Codes.{verdict-read, written-read, tree-pair-read, length-read, comparison-read}
+use Rattle.thompson.proofs.Codes.{verdict-read, reply-read, comparison-read}
 use Rattle.claims.specs.Exports.{ExportsAnswerAsCalls}
 
 pub exports-answer-as-calls : ExportsAnswerAsCalls
 exports-answer-as-calls = record {
-  word-to-record = λ u m m′ a h. (h .passed, h .meets, ap outcomeOf (h .numbers) ∙ written-read (h .passed));
+  word-to-record = λ u m m′ a h. (h .passed, h .meets, ap outcomeOf (h .numbers) ∙ reply-read (h .passed));
   check-record = λ s a h. (h .passed, h .meets, ap outcomeOf (h .numbers) ∙ verdict-read (h .passed));
   record-to-tree-pair =
-      λ s p q p′ q′ a h. (h .passed, h .meets, ap outcomeOf (h .numbers) ∙ tree-pair-read (h .passed));
-  record-to-length = λ s a h. (h .passed, h .meets, ap outcomeOf (h .numbers) ∙ length-read (h .passed));
-  record-to-word = λ s t t′ a h. (h .passed, h .meets, ap outcomeOf (h .numbers) ∙ written-read (h .passed));
+      λ s p q p′ q′ a h. (h .passed, h .meets, ap outcomeOf (h .numbers) ∙ reply-read (h .passed));
+  record-to-length = λ s a h. (h .passed, h .meets, ap outcomeOf (h .numbers) ∙ reply-read (h .passed));
+  record-to-word = λ s t t′ a h. (h .passed, h .meets, ap outcomeOf (h .numbers) ∙ reply-read (h .passed));
   same-element =
       λ u v m m′ k k′ a h. (h .passed, h .meets, ap decisionIn (h .numbers) ∙ comparison-read (h .passed));
 }

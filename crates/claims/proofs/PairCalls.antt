@@ -10,10 +10,10 @@ use lib.Seq.{sets}
 use borrow.Author.Tests.{lt-ltb, le-ltb}
 use Rattle.lists.proofs.Writes.{sets-front, sets-beyond}
 use Rattle.group.specs.Forms.{Form}
-use Rattle.refusals.specs.Outcomes.{Outcome, accepted, refused, valued}
+use Rattle.refusals.specs.Outcomes.{Outcome, accepted, refused, valued, replyOf}
 use Rattle.refusals.proofs.Outcomes.{accepted-same, accepted-refused, refused-number, refused-place, valued-accepted}
 use Rattle.records.specs.Reading.{decode}
-use Rattle.records.specs.Faults.{Bytes}
+use Rattle.fields.specs.Fields.{Bytes}
 use Rattle.records.proofs.Accepted.{decode-form, record-decoded, decoded↔record}
 use Rattle.trees.specs.Trees.{Tree, carets}
 use Rattle.trees.specs.Pairs.{caretsOf, minusTree, plusTree}
@@ -25,9 +25,8 @@ use Rattle.trees.proofs.Shapes.{shape-length}
 use Rattle.lengths.specs.Kinds.{kinds}
 use Rattle.lengths.specs.Weights.{formLength}
 use Rattle.lengths.proofs.CaretKinds.{kind-at}
-use Rattle.pairs.specs.Contracts.{treePairOf, wordLengthOf, pairedIn, treeAfter, Paired, Measured}
-use Rattle.pairs.specs.declared.TreePair.{TreePair}
-use Rattle.pairs.specs.declared.WordLength.{WordLength}
+use Rattle.pairs.specs.Contracts.{pairedIn, treeAfter, Paired, Measured}
+use Rattle.refusals.specs.declared.Reply.{Reply}
 use Rattle.pairs.proofs.Tables.{carets-most}
 use Rattle.claims.specs.Refusals.{ShortShape, PairRefusal, unread, shortShape}
 use Rattle.claims.specs.Answers.{IsRefused, Refuses}
@@ -112,10 +111,10 @@ module _ (s : List ℕ) (m p : ℕ) where
       to (unread c) = rw (decoded↔refusal s bytes n q .1 c) refl
       to (shortShape en eq short) = short-refused short ∙ sym (ap₂ refused en eq)
 
-module _ {s m p m′ p′ : List ℕ} {r : TreePair} (h : Paired s m p m′ p′ r) where
+module _ {s m p m′ p′ : List ℕ} {r : Reply} (h : Paired s m p m′ p′ r) where
   -- Refused as what is found, and then both buffers stay.
-  pub pair-refused : Refuses (treePairOf r) (PairRefusal s (length m) (length p))
-      × (IsRefused (treePairOf r) → (m′ ≡ m) × (p′ ≡ p))
+  pub pair-refused : Refuses (replyOf r) (PairRefusal s (length m) (length p))
+      × (IsRefused (replyOf r) → (m′ ≡ m) × (p′ ≡ p))
   pair-refused = (
     refuses-when caretsOf (pairedIn s (length m) (length p)) (h .result) (PairRefusal s (length m) (length p))
         (paired↔refusal s (length m) (length p) (h .are-bytes)),
@@ -165,7 +164,7 @@ module _ {s m p m′ p′ : List ℕ} {r : TreePair} (h : Paired s m p m′ p′
         }
 
   -- An accepted call.
-  pub pair-gives : (n : ℕ) → treePairOf r ≡ accepted n → PairOfRecord s m p m′ p′ n
+  pub pair-gives : (n : ℕ) → replyOf r ≡ accepted n → PairOfRecord s m p m′ p′ n
   pair-gives n a = go (find s (length m) (length p) (h .are-bytes))
     where
       never : (k q : ℕ) → pairedIn s (length m) (length p) ≡ refused k q → ⊥
@@ -179,7 +178,7 @@ module _ {s m p m′ p′ : List ℕ} {r : TreePair} (h : Paired s m p m′ p′
           subst (λ (k : ℕ). PairOfRecord s m p m′ p′ k) same (of-record f e o hm hp)
 
 -- The length is that of the kinds of the pair's carets.
-pub length-gives : (s : List ℕ) (r : WordLength) (n : ℕ) → Measured s r → wordLengthOf r ≡ accepted n
+pub length-gives : (s : List ℕ) (r : Reply) (n : ℕ) → Measured s r → replyOf r ≡ accepted n
     → LengthOfRecord s n
 length-gives s r n h a =
     let x = valued-accepted formLength (decode s) n (sym (h .result) ∙ a) in

@@ -14,7 +14,8 @@ use Rattle.receipts.proofs.Parts.{served-append}
 use Rattle.receipts.proofs.Meets.{serve-same-line, serve-met-lines}
 use Rattle.receipts.proofs.Lines.{receipt-cut, closed, closed-then, served-lines}
 use Rattle.receipts.proofs.Bounds.{served-bounds}
-use Rattle.receipts.proofs.Calls.{placed-front, finish-front, serve-front}
+use Rattle.refusals.proofs.Placing.{placed-front}
+use Rattle.receipts.proofs.Calls.{finish-front, serve-front}
 use Rattle.claims.specs.Receipts.{LinesOfBytes, LinesInParts, ServesMetLines, CutKeepsReceipt}
 use Rattle.claims.specs.Receipts.{ServeCall, CallsOfRun, ReceiptsOfInput}
 

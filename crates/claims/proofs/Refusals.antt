@@ -19,9 +19,9 @@ use Rattle.refusals.specs.Outcomes.{Outcome, accepted, refused, then}
 use Rattle.refusals.proofs.Outcomes.{accepted-refused, refused-number, refused-place}
 use Rattle.records.specs.Format.{bufferSize}
 use Rattle.records.specs.Reading.{decode}
-use Rattle.records.specs.Faults.{Bytes}
+use Rattle.fields.specs.Fields.{Bytes}
 use Rattle.records.proofs.Refused.{refused-3, refused-4, refused-5, refused-numbers}
-use Rattle.forest.specs.Judging.{judgedReading}
+use Rattle.letters.specs.Judging.{judgedReading}
 use Rattle.words.specs.Recording.{Memory, judgedWith}
 use Rattle.claims.specs.Refusals.{Long, Unlettered, ShortTable, ShortBuffer, NoWordRefusal, WordRefusal}
 use Rattle.claims.specs.Refusals.{long, unlettered, shortTable, shortBuffer}

@@ -21,12 +21,12 @@ use Rattle.group.proofs.Congruence.{joined-trans, joined-sym}
 use Rattle.group.proofs.Products.{form-joined}
 use Rattle.group.proofs.Theorems.{joined-map, the-form-joined}
 use Rattle.group.proofs.FreeWords.{freely-joined}
-use Rattle.refusals.specs.Outcomes.{Outcome, accepted, refused, after, valued, writtenOf}
-use Rattle.refusals.specs.declared.Written.{Written}
+use Rattle.refusals.specs.Outcomes.{Outcome, accepted, refused, after, valued, replyOf}
+use Rattle.refusals.specs.declared.Reply.{Reply}
 use Rattle.refusals.proofs.Outcomes.{accepted-same, accepted-refused, refused-number, refused-place}
 use Rattle.records.specs.Format.{encode}
 use Rattle.records.specs.Reading.{decode}
-use Rattle.records.specs.Faults.{Bytes}
+use Rattle.fields.specs.Fields.{Bytes}
 use Rattle.records.proofs.Accepted.{decode-form, decode-accepts, record-decoded, decoded↔record}
 use Rattle.spelling.specs.Spelling.{Spells, spelling}
 use Rattle.spelling.specs.Contracts.{spelledIn, Spelled}
@@ -118,8 +118,8 @@ module _ (s : List ℕ) (n : ℕ) where
       to (shortWord ek eq l) = short-refused l ∙ sym (ap₂ refused ek eq)
 
 -- Refused as what is found, and then the buffer stays.
-pub spelling-refused : {s w w′ : List ℕ} {r : Written} → Spelled s w w′ r
-    → Refuses (writtenOf r) (SpellingRefusal s (length w)) × (IsRefused (writtenOf r) → w′ ≡ w)
+pub spelling-refused : {s w w′ : List ℕ} {r : Reply} → Spelled s w w′ r
+    → Refuses (replyOf r) (SpellingRefusal s (length w)) × (IsRefused (replyOf r) → w′ ≡ w)
 spelling-refused {s} {w} h = (
   refuses-when length (spelledIn s (length w)) (h .result) (SpellingRefusal s (length w))
       (spelled↔refusal s (length w) (h .are-bytes)),
@@ -147,7 +147,7 @@ pub record SpelledAs (s w w′ : List ℕ) (n : ℕ) (f : Form) : Type 0 where
   pub room : length (spelling f) ≤ length w
   pub holds : w′ ≡ sets w 0 (bytesOf (spelling f))
 
-pub spelled-as : {s w w′ : List ℕ} {r : Written} {n : ℕ} → Spelled s w w′ r → writtenOf r ≡ accepted n
+pub spelled-as : {s w w′ : List ℕ} {r : Reply} {n : ℕ} → Spelled s w w′ r → replyOf r ≡ accepted n
     → (f : Form) × SpelledAs s w w′ n f
 spelled-as {s} {w} {w′} {r} {n} h a = go (find s (length w))
   where
@@ -176,15 +176,15 @@ front-spelled {s} {w} {w′} {n} {f} c =
     ∙ sets-front (bytesOf (spelling f)) w n (bytes-length (spelling f) ∙ c .number) (omega (arith, c .number, c .room))
 
 -- What is answered where the record is read.
-pub word-of-record : {s w w′ : List ℕ} {r : Written} → Spelled s w w′ r → None (RecordRefusal s)
-    → WordOfRecord s w w′ (writtenOf r)
+pub word-of-record : {s w w′ : List ℕ} {r : Reply} → Spelled s w w′ r → None (RecordRefusal s)
+    → WordOfRecord s w w′ (replyOf r)
 word-of-record {s} {w} {w′} {r} h none = go (find s (length w))
   where
     left : {o : Outcome Word} → spelledIn s (length w) ≡ o → w′ ≡ after o w (λ y. sets w 0 (bytesOf y))
     left e = h .bytes ∙ ap (λ (o : Outcome Word). after o w (λ y. sets w 0 (bytesOf y))) e
 
-    of-form : (f : Form) → decode s ≡ accepted f → SpelledInto (spelling f) w w′ (writtenOf r)
-        → WordOfRecord s w w′ (writtenOf r)
+    of-form : (f : Form) → decode s ≡ accepted f → SpelledInto (spelling f) w w′ (replyOf r)
+        → WordOfRecord s w w′ (replyOf r)
     of-form f e a = record {
       form = f;
       is-record = decoded↔record s f (h .are-bytes) .0 e;
@@ -195,14 +195,14 @@ word-of-record {s} {w} {w′} {r} h none = go (find s (length w))
     }
 
     written : (f : Form) → length (spelling f) ≤ limit → length (spelling f) ≤ length w
-        → spelledIn s (length w) ≡ accepted (spelling f) → SpelledInto (spelling f) w w′ (writtenOf r)
+        → spelledIn s (length w) ≡ accepted (spelling f) → SpelledInto (spelling f) w w′ (replyOf r)
     written f low room o =
         let long = bytes-length (spelling f) in
         isWritten low room (h .result ∙ ap (valued length) o)
         (ap (take (length (spelling f))) (left o) ∙ sets-front (bytesOf (spelling f)) w _ long room)
         (ap (drop (length (spelling f))) (left o) ∙ sets-beyond (bytesOf (spelling f)) w _ long room)
 
-    go : Found s (length w) → WordOfRecord s w w′ (writtenOf r)
+    go : Found s (length w) → WordOfRecord s w w′ (replyOf r)
     go (unreadable k q e o) = absurd (none k q (decoded↔refusal s (h .are-bytes) k q .0 e))
     go (tooLong f e l o) = of-form f e (passesLimit l (h .result ∙ ap (valued length) o) (left o))
     go (tooShort f e k l o) = of-form f e (passesBuffer k l (h .result ∙ ap (valued length) o) (left o))

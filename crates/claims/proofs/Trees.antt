@@ -13,8 +13,8 @@ use Rattle.lists.proofs.Entries.{at-same-list}
 use Rattle.group.specs.Forms.{Side, bSide, aSide, onSide, exponent, exponents}
 use Rattle.group.specs.Limits.{limit}
 use Rattle.group.proofs.Exponents.{exponents-at}
-use Rattle.records.specs.Reading.{formUpTo}
-use Rattle.records.proofs.Levels.{upTo-below, upTo-behind}
+use Rattle.group.specs.UpTo.{formUpTo}
+use Rattle.group.proofs.UpTo.{upTo-below, upTo-behind}
 use Rattle.trees.specs.Trees.{Tree, carets}
 use Rattle.trees.proofs.Readings.{exponentsOf}
 use Rattle.trees.proofs.Exponents.{exponents-length, side-exponents}

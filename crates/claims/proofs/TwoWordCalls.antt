@@ -10,13 +10,14 @@ use lib.ListN.{length}
 use Rattle.group.specs.Letters.{Word}
 use Rattle.group.specs.Chains.{Joined}
 use Rattle.refusals.specs.Outcomes.{Outcome, accepted, refused}
-use Rattle.refusals.specs.declared.Written.{Written}
-use Rattle.refusals.specs.declared.Written.the-variants.{Bytes}
+use Rattle.refusals.specs.declared.Reply.{Reply}
+use Rattle.refusals.specs.declared.Reply.the-variants.{Number}
 use Rattle.words.specs.Recording.{Memory, judgedWith, encodeWord, countRecord, Left, Recorded}
-use Rattle.words.specs.Comparing.{Decision, same, different, refusedWord, decided, decisionOf, sameBytes}
+use Rattle.words.specs.Comparing.{Decision, same, different, refusedWord, decided, decisionOf}
+use Rattle.lists.specs.SameBytes.{sameBytes}
 use Rattle.words.specs.Comparing.{ComparedBy, Compared}
 use Rattle.words.specs.declared.Comparison.{Comparison}
-use Rattle.words.proofs.Compared.{same-bytes, bytes-same}
+use Rattle.lists.proofs.SameBytes.{same-bytes, bytes-same}
 use Rattle.claims.specs.Refusals.{WordRefusal}
 use Rattle.claims.specs.Answers.{None, WordRefused, Answered, RefusesWords}
 use Rattle.claims.proofs.Refusals.{judged↔refusal, accepted-none, none-accepted}
@@ -85,9 +86,9 @@ decides false {d} {P} e j = (((λ s. absurd (never s)), λ p. absurd (none p)), 
 
 -- A memory that is left as the word's own call leaves it.
 own-call : {u : List ℕ} {m m′ : Memory} → (w : Word) × (judgedWith u m ≡ accepted w) × Left (judgedWith u m) m m′
-    → (r : Written) × Recorded u m m′ r
+    → (r : Reply) × Recorded u m m′ r
 own-call (w, e, left) = (
-  Bytes (length (encodeWord w)),
+  Number (length (encodeWord w)),
   record { result = sym (ap (λ (o : Outcome Word). countRecord o) e); leaves = left },
 )
 
@@ -130,7 +131,7 @@ module _ (u v : List ℕ) (m m′ k k′ : Memory) (c : Comparison) (h : Compare
   )
 
   -- An answer leaves each memory as the word's own call does.
-  pub own-calls : Answered (decisionOf c) → ((r : Written) × Recorded u m m′ r) × ((q : Written) × Recorded v k k′ q)
+  pub own-calls : Answered (decisionOf c) → ((r : Reply) × Recorded u m m′ r) × ((q : Reply) × Recorded v k k′ q)
   own-calls a = let x = left-both (judgedWith u m) (judgedWith v k) h a in (own-call (x .0), own-call (x .1))
 
   -- Two accepted words: same just when a chain joins them, else different.

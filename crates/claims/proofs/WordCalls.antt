@@ -20,11 +20,12 @@ use Rattle.group.proofs.Bytes.{read-length}
 use Rattle.group.proofs.Reduced.{form-canonical, form-reduced, form-trimmed}
 use Rattle.group.proofs.Sizes.{form-sum, form-index}
 use Rattle.group.proofs.Theorems.{form-map, forms↔joined}
-use Rattle.refusals.specs.Outcomes.{Outcome, accepted, refused, writtenOf}
-use Rattle.refusals.specs.declared.Written.{Written}
+use Rattle.refusals.specs.Outcomes.{Outcome, accepted, refused, replyOf}
+use Rattle.refusals.specs.declared.Reply.{Reply}
 use Rattle.refusals.proofs.Outcomes.{accepted-refused}
 use Rattle.records.specs.Format.{encode, Within}
 use Rattle.records.specs.Reading.{decode}
+use Rattle.records.proofs.WordForms.{form-within}
 use Rattle.records.proofs.ReadBack.{encode-injective}
 use Rattle.records.proofs.Accepted.{decode-encode}
 use Rattle.records.proofs.Lengths.{encode-size}
@@ -44,17 +45,6 @@ left-refused {o} {m} {m′} n p e h =
     (h .a-table ∙ ap (λ (q : Outcome Word). tableAfter aSide q (m .a)) e)
     ∙ ap (λ (l : List ℕ). memory (m .b) (m .a) l)
     (h .bytes ∙ ap (λ (q : Outcome Word). bufferAfter q (m .buffer)) e)
-
--- The form of an accepted word is within the limits.
-form-within : (w : Word) → length w ≤ limit → Within (formOf w)
-form-within w short = record {
-  indices = λ s i some. low s i some (decLe i (length w));
-  sum = omega (arith, form-sum w, short);
-}
-  where
-    low : (s : Side) (i : ℕ) → 0 < exponent s (formOf w) i → Dec (i ≤ length w) → i ≤ limit
-    low s i some (yes h) = omega (arith, h, short)
-    low s i some (no h) = absurd (omega (arith, form-index w s i (omega (arith, h)), some))
 
 -- A word that was judged good has at most as many letters as the limit.
 pub judged-within : (u : List ℕ) (m : Memory) (w : Word) → judgedWith u m ≡ accepted w → length w ≤ limit
@@ -79,7 +69,7 @@ pub record CallOf (u : List ℕ) (m m′ : Memory) (n : ℕ) : Type 0 where
   pub bytes : u ≡ bytesOf word
   pub judged-so : judgedWith u m ≡ accepted word
 
-pub call-of : {u : List ℕ} {m m′ : Memory} {r : Written} {n : ℕ} → Recorded u m m′ r → writtenOf r ≡ accepted n
+pub call-of : {u : List ℕ} {m m′ : Memory} {r : Reply} {n : ℕ} → Recorded u m m′ r → replyOf r ≡ accepted n
     → CallOf u m m′ n
 call-of {u} {m} {m′} {r} {n} h e = go (judge-word u m)
   where
@@ -93,8 +83,8 @@ pub record FrontOf (u : List ℕ) (m m′ : Memory) (n : ℕ) (w : Word) : Type 
   pub count : n ≡ length (encodeWord w)
   pub front : take n (m′ .buffer) ≡ encodeWord w
 
-pub call-front : {u : List ℕ} {m m′ : Memory} {r : Written} {n : ℕ} {w : Word} → Recorded u m m′ r
-    → writtenOf r ≡ accepted n → u ≡ bytesOf w → FrontOf u m m′ n w
+pub call-front : {u : List ℕ} {m m′ : Memory} {r : Reply} {n : ℕ} {w : Word} → Recorded u m m′ r
+    → replyOf r ≡ accepted n → u ≡ bytesOf w → FrontOf u m m′ n w
 call-front {u} {m} {m′} {r} {n} {w} h e b = go (judge-word u m)
   where
     written : WordWritten u m m′ n
@@ -112,8 +102,8 @@ pub read-record : (w : Word) → length w ≤ limit → decode (encodeWord w) �
 read-record w short = decode-encode (formOf w) (form-canonical w) (form-within w short)
 
 -- So is the record that an accepted call writes.
-pub recorded-form : {u : List ℕ} {m m′ : Memory} {r : Written} {n : ℕ} (w : Word) → Recorded u m m′ r
-    → writtenOf r ≡ accepted n → u ≡ bytesOf w → decode (take n (m′ .buffer)) ≡ accepted (formOf w)
+pub recorded-form : {u : List ℕ} {m m′ : Memory} {r : Reply} {n : ℕ} (w : Word) → Recorded u m m′ r
+    → replyOf r ≡ accepted n → u ≡ bytesOf w → decode (take n (m′ .buffer)) ≡ accepted (formOf w)
 recorded-form {u} {m} {m′} {r} {n} w h e b =
     let call = call-front {w = w} h e b in
     ap decode (call .front) ∙ read-record w (judged-within u m w (call .judged-so))
@@ -139,8 +129,8 @@ table-beyond w s t t′ e =
     ∙ drop-at (values (length w + 1) (exponent s (formOf w))) (drop (length w + 1) t) (length w + 1)
     (values-length (length w + 1) (exponent s (formOf w)))
 
-pub call-keeps-map : {u : List ℕ} {m m′ : Memory} {r : Written} {n : ℕ} {w : Word} → Recorded u m m′ r
-    → writtenOf r ≡ accepted n → u ≡ bytesOf w → RecordOfWord m m′ n w
+pub call-keeps-map : {u : List ℕ} {m m′ : Memory} {r : Reply} {n : ℕ} {w : Word} → Recorded u m m′ r
+    → replyOf r ≡ accepted n → u ≡ bytesOf w → RecordOfWord m m′ n w
 call-keeps-map {u} {m} {m′} {r} {n} {w} h e b =
     let call = call-front h e b in
     let so = call .judged-so in

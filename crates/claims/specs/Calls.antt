@@ -13,14 +13,12 @@ use Prim.Native.Nat.{ℕ}
 use lib.ListN.{take}
 use Rattle.group.specs.Letters.{Word}
 use Rattle.group.specs.Bytes.{bytesOf}
-use Rattle.refusals.specs.Outcomes.{accepted, writtenOf}
-use Rattle.refusals.specs.declared.Written.{Written}
+use Rattle.refusals.specs.Outcomes.{accepted, replyOf}
+use Rattle.refusals.specs.declared.Reply.{Reply}
 use Rattle.words.specs.Recording.{Memory, Recorded}
 use Rattle.words.specs.Comparing.{Compared, decisionOf}
 use Rattle.words.specs.declared.Comparison.{Comparison}
-use Rattle.pairs.specs.Contracts.{Paired, Measured, treePairOf, wordLengthOf}
-use Rattle.pairs.specs.declared.TreePair.{TreePair}
-use Rattle.pairs.specs.declared.WordLength.{WordLength}
+use Rattle.pairs.specs.Contracts.{Paired, Measured}
 use Rattle.spelling.specs.Contracts.{Spelled}
 use Rattle.thompson.specs.Codes.{codeOf, Passed}
 use Rattle.thompson.specs.declared.Answer.{Answer}
@@ -30,10 +28,10 @@ use Rattle.claims.specs.Answers.{Answered}
 pub record WordCall (w : Word) : Type 0 where
   pub lent : Memory
   pub left : Memory
-  pub answer : Written
+  pub answer : Reply
   pub count : ℕ
   pub contract : Recorded (bytesOf w) lent left answer
-  pub taken : writtenOf answer ≡ accepted count
+  pub taken : replyOf answer ≡ accepted count
 
 -- The record that it wrote.
 abbrev pub recordBy : {w : Word} → WordCall w → List ℕ
@@ -43,10 +41,10 @@ recordBy c = take (c .count) (c .left .buffer)
 pub record SpellingCall (s : List ℕ) : Type 0 where
   pub lent : List ℕ
   pub left : List ℕ
-  pub answer : Written
+  pub answer : Reply
   pub count : ℕ
   pub contract : Spelled s lent left answer
-  pub taken : writtenOf answer ≡ accepted count
+  pub taken : replyOf answer ≡ accepted count
 
 -- The letters that it wrote, as bytes.
 abbrev pub spelledBy : {s : List ℕ} → SpellingCall s → List ℕ
@@ -58,17 +56,17 @@ pub record PairCall (s : List ℕ) : Type 0 where
   pub lent-plus : List ℕ
   pub left-minus : List ℕ
   pub left-plus : List ℕ
-  pub answer : TreePair
+  pub answer : Reply
   pub count : ℕ
   pub contract : Paired s lent-minus lent-plus left-minus left-plus answer
-  pub taken : treePairOf answer ≡ accepted count
+  pub taken : replyOf answer ≡ accepted count
 
 -- An accepted call of record_to_length.
 pub record LengthCall (s : List ℕ) : Type 0 where
-  pub answer : WordLength
+  pub answer : Reply
   pub count : ℕ
   pub contract : Measured s answer
-  pub taken : wordLengthOf answer ≡ accepted count
+  pub taken : replyOf answer ≡ accepted count
 
 -- A call of same_element that answered same or different.
 pub record TwoWordCall (u v : List ℕ) : Type 0 where
@@ -85,7 +83,7 @@ pub record ExportedCall (w : Word) : Type 0 where
   pub lent : Memory
   pub left : Memory
   pub answer : Answer
-  pub contract : Passed (λ r. codeOf (writtenOf r)) (Recorded (bytesOf w) lent left) answer
+  pub contract : Passed (λ r. codeOf (replyOf r)) (Recorded (bytesOf w) lent left) answer
   pub taken : answer .refusal ≡ 0
 
 -- The record that it wrote.

@@ -17,8 +17,7 @@
 -- Calls and answers:
 --     WordCall w, recordBy f      an accepted call on the word w; the record that it wrote        claims, Calls
 --     SpellingCall, PairCall, LengthCall s, TwoWordCall u v, ExportedCall w     the other kinds   claims, Calls
---     Written, Verdict            answer types; writtenOf, verdictOf: their outcomes              refusals, Outcomes
---     TreePair, WordLength        answer types; treePairOf, wordLengthOf                          pairs, Contracts
+--     Reply, Verdict              answer types; replyOf, verdictOf: their outcomes                refusals, Outcomes
 --     Comparison, decisionOf      the answer on two words; same, different, or a refused word     words, Comparing
 -- On the right sides:
 --     Refuses o R                 each refusal is the outcome o just when R holds of it           claims, Answers
@@ -42,14 +41,12 @@ use Rattle.group.specs.Letters.{Word}
 use Rattle.group.specs.Bytes.{bytesOf}
 use Rattle.group.specs.Chains.{Joined}
 use Rattle.group.specs.Forms.{Form}
-use Rattle.refusals.specs.Outcomes.{accepted, verdictOf, writtenOf}
+use Rattle.refusals.specs.Outcomes.{accepted, verdictOf, replyOf}
 use Rattle.refusals.specs.declared.Verdict.{Verdict}
-use Rattle.refusals.specs.declared.Written.{Written}
+use Rattle.refusals.specs.declared.Reply.{Reply}
 use Rattle.records.specs.Format.{IsRecord}
 use Rattle.records.specs.Checking.{Checked}
-use Rattle.pairs.specs.Contracts.{Paired, Measured, treePairOf, wordLengthOf}
-use Rattle.pairs.specs.declared.TreePair.{TreePair}
-use Rattle.pairs.specs.declared.WordLength.{WordLength}
+use Rattle.pairs.specs.Contracts.{Paired, Measured}
 use Rattle.spelling.specs.Contracts.{Spelled}
 use Rattle.words.specs.Recording.{Memory, Recorded}
 use Rattle.words.specs.Comparing.{Compared, decisionOf, same, different}
@@ -64,15 +61,15 @@ use Rattle.claims.specs.Given.{RecordOfWord, PairOfRecord, LengthOfRecor
 -- Demand 1: each refusal is given under its condition and at no other time, and alters nothing that was lent. A word is
 -- accepted when no condition of 1, 2, 6 or 7 holds, and the check accepts just the records of forms.
 pub record Demand1 : Type 0 where
-  pub word-to-record : (u : List ℕ) (m m′ : Memory) (r : Written) → Recorded u m m′ r
-      → Refuses (writtenOf r) (WordRefusal u m) × (IsRefused (writtenOf r) → m′ ≡ m)
+  pub word-to-record : (u : List ℕ) (m m′ : Memory) (r : Reply) → Recorded u m m′ r
+      → Refuses (replyOf r) (WordRefusal u m) × (IsRefused (replyOf r) → m′ ≡ m)
   pub check-record : (s : List ℕ) (r : Verdict) → Checked s r → Refuses (verdictOf r) (RecordRefusal s)
-  pub record-to-tree-pair : (s p q p′ q′ : List ℕ) (r : TreePair) → Paired s p q p′ q′ r
-      → Refuses (treePairOf r) (PairRefusal s (length p) (length q))
-      × (IsRefused (treePairOf r) → (p′ ≡ p) × (q′ ≡ q))
-  pub record-to-length : (s : List ℕ) (r : WordLength) → Measured s r → Refuses (wordLengthOf r) (RecordRefusal s)
-  pub record-to-word : (s t t′ : List ℕ) (r : Written) → Spelled s t t′ r
-      → Refuses (writtenOf r) (SpellingRefusal s (length t)) × (IsRefused (writtenOf r) → t′ ≡ t)
+  pub record-to-tree-pair : (s p q p′ q′ : List ℕ) (r : Reply) → Paired s p q p′ q′ r
+      → Refuses (replyOf r) (PairRefusal s (length p) (length q))
+      × (IsRefused (replyOf r) → (p′ ≡ p) × (q′ ≡ q))
+  pub record-to-length : (s : List ℕ) (r : Reply) → Measured s r → Refuses (replyOf r) (RecordRefusal s)
+  pub record-to-word : (s t t′ : List ℕ) (r : Reply) → Spelled s t t′ r
+      → Refuses (replyOf r) (SpellingRefusal s (length t)) × (IsRefused (replyOf r) → t′ ≡ t)
   pub same-element : (u v : List ℕ) (m m′ k k′ : Memory) (r : Comparison) → Compared u m m′ v k k′ r
       → RefusesWords (decisionOf r) (WordRefusal u m) (WordRefusal v k)
       × (WordRefused (decisionOf r) → (m′ ≡ m) × (k′ ≡ k))
@@ -85,21 +82,21 @@ pub record Demand1 : Type 0 where
 -- accepted as a word where tables and buffer are long enough, with that record again. The two-word call, where it
 -- answers, leaves the memory of each word as that word's own call does.
 pub record Demand2 : Type 0 where
-  pub is-word : (u : List ℕ) (m m′ : Memory) (r : Written) (n : ℕ) → Recorded u m m′ r → writtenOf r ≡ accepted n
+  pub is-word : (u : List ℕ) (m m′ : Memory) (r : Reply) (n : ℕ) → Recorded u m m′ r → replyOf r ≡ accepted n
       → (w : Word) × (u ≡ bytesOf w)
   pub keeps-map : (w : Word) (f : WordCall w) → RecordOfWord (f .lent) (f .left) (f .count) w
   pub gives-pair : (s : List ℕ) (f : PairCall s)
       → PairOfRecord s (f .lent-minus) (f .lent-plus) (f .left-minus) (f .left-plus) (f .count)
   pub gives-length : (s : List ℕ) (f : LengthCall s) → LengthOfRecord s (f .count)
-  pub gives-word : (s t t′ : List ℕ) (r : Written) → Spelled s t t′ r → None (RecordRefusal s)
-      → WordOfRecord s t t′ (writtenOf r)
+  pub gives-word : (s t t′ : List ℕ) (r : Reply) → Spelled s t t′ r → None (RecordRefusal s)
+      → WordOfRecord s t t′ (replyOf r)
   pub joined : (w x : Word) (f : WordCall w) (g : SpellingCall (recordBy f)) → spelledBy g ≡ bytesOf x → Joined x w
   pub accepted-again : (s : List ℕ) (g : SpellingCall s) (m : Memory) → (ShortTable (spelledBy g) m → ⊥)
       → (ShortBuffer (spelledBy g) m → ⊥) → NoWordRefusal (spelledBy g) m
   pub record-again : (s : List ℕ) (g : SpellingCall s) (x : Word) (f : WordCall x) → spelledBy g ≡ bytesOf x
       → recordBy f ≡ s
   pub leaves-both : (u v : List ℕ) (f : TwoWordCall u v)
-      → ((r : Written) × Recorded u (f .lent1) (f .left1) r) × ((r : Written) × Recorded v (f .lent2) (f .left2) r)
+      → ((r : Reply) × Recorded u (f .lent1) (f .left1) r) × ((r : Reply) × Recorded v (f .lent2) (f .left2) r)
 
 -- Demand 3: two accepted words have equal records, as many bytes and the same byte at each place, just when a chain
 -- joins them, whatever the lent memory held; so it is of the exported call; and the two-word call decides it.

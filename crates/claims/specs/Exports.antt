@@ -3,18 +3,16 @@
 -- the proof. What the claim speaks of, and where it is defined:
 --     Passed code contract r   the contract of each export                                            thompson, Codes
 --     outcomeOf, decisionIn    what a caller reads in the numbers: 0 and a value, or number and place thompson, Codes
---     the contracts, and writtenOf, verdictOf, treePairOf, wordLengthOf, decisionOf      the glossary of Demands.antt
+--     the contracts, and replyOf, verdictOf, decisionOf                       the glossary of Demands.antt
 -- Assumes nothing.
 use mathlib.Core.Path.{_≡_}
 use mathlib.Core.List.{List}
 use Prim.Native.Nat.{ℕ}
-use Rattle.refusals.specs.Outcomes.{verdictOf, writtenOf}
+use Rattle.refusals.specs.Outcomes.{verdictOf, replyOf}
 use Rattle.refusals.specs.declared.Verdict.{Verdict}
-use Rattle.refusals.specs.declared.Written.{Written}
+use Rattle.refusals.specs.declared.Reply.{Reply}
 use Rattle.records.specs.Checking.{Checked}
-use Rattle.pairs.specs.Contracts.{Paired, Measured, treePairOf, wordLengthOf}
-use Rattle.pairs.specs.declared.TreePair.{TreePair}
-use Rattle.pairs.specs.declared.WordLength.{WordLength}
+use Rattle.pairs.specs.Contracts.{Paired, Measured}
 use Rattle.spelling.specs.Contracts.{Spelled}
 use Rattle.words.specs.Recording.{Memory, Recorded}
 use Rattle.words.specs.Comparing.{Compared, decisionOf}
@@ -25,17 +23,17 @@ use Rattle.thompson.specs.declared.Answer.{Answer}
 -- Each exported call answers as its call does.
 pub record ExportsAnswerAsCalls : Type 0 where
   pub word-to-record : (u : List ℕ) (m m′ : Memory) (a : Answer)
-      → Passed (λ r. codeOf (writtenOf r)) (Recorded u m m′) a
-      → (r : Written) × Recorded u m m′ r × (outcomeOf a ≡ writtenOf r)
+      → Passed (λ r. codeOf (replyOf r)) (Recorded u m m′) a
+      → (r : Reply) × Recorded u m m′ r × (outcomeOf a ≡ replyOf r)
   pub check-record : (s : List ℕ) (a : Answer) → Passed (λ r. codeOf (verdictOf r)) (Checked s) a
       → (r : Verdict) × Checked s r × (outcomeOf a ≡ verdictOf r)
   pub record-to-tree-pair : (s p q p′ q′ : List ℕ) (a : Answer)
-      → Passed (λ r. codeOf (treePairOf r)) (Paired s p q p′ q′) a
-      → (r : TreePair) × Paired s p q p′ q′ r × (outcomeOf a ≡ treePairOf r)
-  pub record-to-length : (s : List ℕ) (a : Answer) → Passed (λ r. codeOf (wordLengthOf r)) (Measured s) a
-      → (r : WordLength) × Measured s r × (outcomeOf a ≡ wordLengthOf r)
-  pub record-to-word : (s t t′ : List ℕ) (a : Answer) → Passed (λ r. codeOf (writtenOf r)) (Spelled s t t′) a
-      → (r : Written) × Spelled s t t′ r × (outcomeOf a ≡ writtenOf r)
+      → Passed (λ r. codeOf (replyOf r)) (Paired s p q p′ q′) a
+      → (r : Reply) × Paired s p q p′ q′ r × (outcomeOf a ≡ replyOf r)
+  pub record-to-length : (s : List ℕ) (a : Answer) → Passed (λ r. codeOf (replyOf r)) (Measured s) a
+      → (r : Reply) × Measured s r × (outcomeOf a ≡ replyOf r)
+  pub record-to-word : (s t t′ : List ℕ) (a : Answer) → Passed (λ r. codeOf (replyOf r)) (Spelled s t t′) a
+      → (r : Reply) × Spelled s t t′ r × (outcomeOf a ≡ replyOf r)
   pub same-element : (u v : List ℕ) (m m′ k k′ : Memory) (a : Answer)
       → Passed (λ r. codeOfDecision (decisionOf r)) (Compared u m m′ v k k′) a
       → (r : Comparison) × Compared u m m′ v k k′ r × (decisionIn a ≡ decisionOf r)

@@ -5,7 +5,7 @@
 --     receiptOf k line     the receipt of line k; receiptsFrom, header, outputOf                receipts, Receipts
 --     served s k line held what becomes of a part: its receipts, and what is kept               receipts, Serving
 --     Begun, ServedPart, Finished   the contracts of begin, serve and finish                    receipts, Contracts
---     servingOf, writtenOf the answers as accepted or refused              receipts, Contracts; refusals, Outcomes
+--     servingOf, replyOf the answers as accepted or refused              receipts, Contracts; refusals, Outcomes
 -- Assumes nothing.
 use mathlib.Core.Path.{_≡_}
 use mathlib.Core.List.{List, [], _∷_, _++_}
@@ -14,8 +14,8 @@ use Prim.Native.Nat.{ℕ, _+_, _<_, _≤_, _^_}
 use lib.ListN.{length, take}
 use Rattle.lists.specs.Entries.{At}
 use Rattle.group.specs.Limits.{limit}
-use Rattle.refusals.specs.Outcomes.{accepted, writtenOf}
-use Rattle.refusals.specs.declared.Written.{Written}
+use Rattle.refusals.specs.Outcomes.{accepted, replyOf}
+use Rattle.refusals.specs.declared.Reply.{Reply}
 use Rattle.lines.specs.Lines.{lineFeed, linesOf, joinLines, cutTo, wholeOf}
 use Rattle.lines.specs.Feeding.{meetLines, metIn}
 use Rattle.receipts.specs.Receipts.{receiptOf, receiptsFrom, outputOf}
@@ -66,10 +66,10 @@ pub record ServeCall (part : List ℕ) (number held : ℕ) (line : List ℕ) (s 
 pub record FinishCall (number held : ℕ) (line bytes : List ℕ) : Type 0 where
   pub out : List ℕ
   pub out′ : List ℕ
-  pub answer : Written
+  pub answer : Reply
   pub count : ℕ
   pub contract : Finished number held line out out′ answer
-  pub taken : writtenOf answer ≡ accepted count
+  pub taken : replyOf answer ≡ accepted count
   pub wrote : bytes ≡ take count out′
 
 -- The calls of a run, one for each part of an input and `finish` behind the last: each is handed the number, the count
@@ -85,7 +85,7 @@ CallsOfRun (part ∷ parts) number held line bytes =
 -- a run write are the output for the whole input.
 abbrev pub ReceiptsOfInput : Type 0
 ReceiptsOfInput =
-    (parts : List (List ℕ)) (line out out′ bytes : List ℕ) (r : Written) (n : ℕ)
+    (parts : List (List ℕ)) (line out out′ bytes : List ℕ) (r : Reply) (n : ℕ)
     → length line ≡ limit + 1 → length (wholeOf parts) < 2 ^ 64
-    → Begun out out′ r → writtenOf r ≡ accepted n → CallsOfRun parts 1 0 line bytes
+    → Begun out out′ r → replyOf r ≡ accepted n → CallsOfRun parts 1 0 line bytes
     → take n out′ ++ bytes ≡ outputOf (wholeOf parts)

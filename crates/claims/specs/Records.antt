@@ -13,7 +13,7 @@ use Rattle.group.specs.Forms.{Form}
 use Rattle.refusals.specs.Outcomes.{accepted}
 use Rattle.records.specs.Format.{IsRecord}
 use Rattle.records.specs.Reading.{decode}
-use Rattle.records.specs.Faults.{Bytes}
+use Rattle.fields.specs.Fields.{Bytes}
 use Rattle.claims.specs.Refusals.{RecordRefusal}
 use Rattle.claims.specs.Answers.{None}
 

@@ -23,7 +23,8 @@ use Rattle.group.specs.Products.{formOf}
 use Rattle.group.specs.Texts.{wordOf}
 use Rattle.group.specs.Limits.{limit}
 use Rattle.refusals.specs.Outcomes.{accepted, refused, valued}
-use Rattle.records.specs.Format.{Power, power, entries, field, bTag, aTag, encode}
+use Rattle.records.specs.Format.{Power, power, entries, bTag, aTag, encode}
+use Rattle.fields.specs.Fields.{field}
 use Rattle.records.specs.Reading.{decode}
 use Rattle.records.specs.Faults.{formRead}
 use Rattle.trees.specs.Pairs.{caretsOf, minusTree, plusTree}

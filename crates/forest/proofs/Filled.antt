@@ -19,12 +19,12 @@ use Rattle.refusals.specs.Outcomes.{Outcome, accepted, refused, dropValue, verd
 use Rattle.refusals.proofs.Outcomes.{accepted-refused, drop-accepted, drop-refused}
 use Rattle.forest.specs.declared.Filling.{Filling}
 use Rattle.forest.specs.declared.Filling.the-variants.{Filled, Refused as NotFilled, Unfit}
-use Rattle.forest.specs.Judging.{judged}
+use Rattle.letters.specs.Judging.{judged}
 use Rattle.forest.specs.Filling.{tableAfter}
 use Rattle.forest.specs.inside.Filling.{cells, room, judgedIn, fillingOf, FilledTables}
 use Rattle.forest.specs.inside.Moves.{stepLetter, stepWord, Scratch}
 use Rattle.forest.specs.inside.Leaves.{LongTables, Tabled}
-use Rattle.forest.proofs.Judged.{accepted-fit}
+use Rattle.letters.proofs.Judged.{accepted-fit}
 
 -- On the bytes of a word the step reads that word.
 step-letter : (x : Letter) → stepLetter (byteOf x) ≡ x

@@ -15,7 +15,5 @@ pub mod Descent
 pub mod Piled
 pub mod Emitting
 pub mod Zeroing
--- the judgement, and the tables at exit
-pub mod Scanning
-pub mod Judged
+-- the tables at exit
 pub mod Filled

@@ -4,5 +4,4 @@ pub mod Forest
 pub mod Cells
 pub mod Moves
 pub mod Leaves
-pub mod Scanning
 pub mod Filling

@@ -1,16 +1,11 @@
 // The forest engine: the reduced form of a word, one letter in constant time.
-ghost use mathlib.Core.Path.{_≡_};
-ghost use Rattle.refusals.specs.Outcomes.{verdictOf, dropValue};
-ghost use Rattle.forest.specs.Judging.{judged};
 ghost use Rattle.forest.specs.inside.Filling.{FilledTables};
-use crate::letters::letters_in_front;
 use refusals::LIMIT;
 use refusals::Refusal;
 use refusals::Verdict;
 
 mod cells;
 mod leaves;
-mod letters;
 mod row;
 
 // The entries of `lefts` and of `rights`, scratch of `fill_tables`.
@@ -25,27 +20,6 @@ pub enum Filling {
     Filled(usize),
     Refused(Refusal),
     Unfit,
-}
-
-// Refusals 1, 2 and 6, in this order; the lengths are those of the two tables.
-pub fn judge(word: &[u8], b_length: usize, a_length: usize) -> Verdict
-    ensures { λ r. ⌜ verdictOf r ≡ dropValue (judged (now (word .entry)) «b_length» «a_length») ⌝ }
-{
-    let n = word.len();
-    if LIMIT < n {
-        return Verdict::Refused(Refusal::TooManyLetters);
-    }
-    let bad = letters_in_front(word);
-    if bad < n {
-        return Verdict::Refused(Refusal::NotLetter(bad));
-    }
-    if b_length < n + 1 {
-        return Verdict::Refused(Refusal::ShortTable);
-    }
-    if a_length < n + 1 {
-        return Verdict::Refused(Refusal::ShortTable);
-    }
-    Verdict::Accepted
 }
 
 // The exponents of the word's reduced form: entry i of the tables is b_i and a_i, for each i up to the number of
@@ -71,7 +45,7 @@ pub fn fill_tables(
     if stack.len() != ROOM {
         return Filling::Unfit;
     }
-    let v = judge(word, b_table.len(), a_table.len());
+    let v = letters::judge(word, b_table.len(), a_table.len());
     if let Verdict::Refused(r) = v {
         return Filling::Refused(r);
     }

@@ -12,6 +12,7 @@ pub mod Generators
 pub mod Presentations
 -- forms by exponents and by levels; a letter times a form
 pub mod Exponents
+pub mod UpTo
 pub mod Levels
 pub mod Products
 pub mod Reduced

@@ -8,6 +8,7 @@ pub mod Points
 pub mod Maps
 -- forms, the infinite presentation, reducing, products
 pub mod Forms
+pub mod UpTo
 pub mod Presentations
 pub mod Reducing
 pub mod Products

@@ -10,7 +10,7 @@ use lib.Dec.{ltb}
 use lib.Seq.{sets}
 use Rattle.group.specs.Forms.{bSide, aSide, Form}
 use Rattle.group.specs.Limits.{limit}
-use Rattle.refusals.specs.Outcomes.{Outcome, accepted, refused, then, valued, refusal}
+use Rattle.refusals.specs.Outcomes.{Outcome, accepted, refused, then, valued, refusal, replyOf}
 use Rattle.refusals.specs.inside.Verdicts.{refusalIn}
 use Rattle.refusals.specs.declared.Refusal.{Refusal}
 use Rattle.refusals.specs.declared.Verdict.{Verdict}
@@ -25,16 +25,14 @@ use Rattle.trees.specs.Pairs.{caretsOf, minusTree, plusTree}
 use Rattle.trees.specs.Shapes.{shape, shapeSize}
 use Rattle.trees.specs.inside.Writing.{pairingOf, tableCarets, pairCarets, shapeAfter, WrotePair}
 use Rattle.trees.specs.declared.Pairing.{Pairing}
-use Rattle.trees.specs.declared.Pairing.the-variants as Written
+use Rattle.trees.specs.declared.Pairing.the-variants as Paired-by
 use Rattle.lengths.specs.Weights.{pairLength, formLength}
 use Rattle.lengths.specs.inside.Contracts.{lengthOf, tableLength}
 use Rattle.lengths.specs.declared.Length.{Length}
 use Rattle.lengths.specs.declared.Length.the-variants as Summed
-use Rattle.pairs.specs.declared.TreePair.{TreePair}
-use Rattle.pairs.specs.declared.TreePair.the-variants as Pair
-use Rattle.pairs.specs.declared.WordLength.{WordLength}
-use Rattle.pairs.specs.declared.WordLength.the-variants as Word
-use Rattle.pairs.specs.Contracts.{treePairOf, wordLengthOf, pairedIn, Paired, Measured}
+use Rattle.refusals.specs.declared.Reply.{Reply}
+use Rattle.refusals.specs.declared.Reply.the-variants as Replies
+use Rattle.pairs.specs.Contracts.{pairedIn, Paired, Measured}
 use Rattle.pairs.specs.inside.Passing.{pairingIn, lengthIn}
 use Rattle.pairs.proofs.Tables.{tree-of-table, tables-fit}
 
@@ -43,10 +41,10 @@ pub own-cleared : Cleared (suc limit) (replicate (suc limit) 0)
 own-cleared = cleared (suc limit) (omega arith)
 
 -- An answer of the pair writer that is not unfit is passed on.
-pairing-passed : (x : Pairing) (o : Outcome ℕ) → pairingOf x ≡ o → (o ≡ refused 0 0 → ⊥) → treePairOf (pairingIn x) ≡ o
-pairing-passed (Written.Carets n) o h fit = h
-pairing-passed (Written.Refused q) o h fit = h
-pairing-passed Written.Unfit o h fit = absurd (fit (sym h))
+pairing-passed : (x : Pairing) (o : Outcome ℕ) → pairingOf x ≡ o → (o ≡ refused 0 0 → ⊥) → replyOf (pairingIn x) ≡ o
+pairing-passed (Paired-by.Carets n) o h fit = h
+pairing-passed (Paired-by.Refused q) o h fit = h
+pairing-passed Paired-by.Unfit o h fit = absurd (fit (sym h))
 
 -- The tables are fit, and their trees are those of the form.
 module _ {s z b a : List ℕ} {f : Form} (c : Cleared (suc limit) z) (r : Read s z b a f) where
@@ -62,13 +60,13 @@ module _ {s z b a : List ℕ} {f : Form} (c : Cleared (suc limit) z) (r : Read s
 
   -- The length of the tables is that of the form.
   pub length-read : (l : Length) → lengthOf l ≡ tableLength b a
-      → wordLengthOf (lengthIn l) ≡ valued formLength (decode s)
+      → replyOf (lengthIn l) ≡ valued formLength (decode s)
   length-read l e =
       passed-on l (e ∙ ap (λ (o : Outcome ℕ). then o (λ n. accepted (pairLength (treeOf n a) (treeOf n b)))) fit-tables
       ∙ ap₂ (λ (t u : Tree). accepted (pairLength t u)) minus-tree plus-tree)
       ∙ sym (ap (valued formLength) (r .decodes))
     where
-      passed-on : (k : Length) {n : ℕ} → lengthOf k ≡ accepted n → wordLengthOf (lengthIn k) ≡ accepted n
+      passed-on : (k : Length) {n : ℕ} → lengthOf k ≡ accepted n → replyOf (lengthIn k) ≡ accepted n
       passed-on (Summed.Letters m) h = h
       passed-on Summed.Unfit h = absurd (accepted-refused (sym h))
 
@@ -113,7 +111,7 @@ module _ {s z b a : List ℕ} {v : Verdict} {q : Refusal} (c : Cleared (suc limi
   refuses : decode s ≡ refusal r
   refuses = read-refused c d e ∙ sym (ap refusal is)
 
-  pub pair-refused : {m p : List ℕ} → Paired s m p m p (Pair.Refused r)
+  pub pair-refused : {m p : List ℕ} → Paired s m p m p (Replies.Refused r)
   pair-refused = record {
     are-bytes = d .are-bytes;
     result = rw refuses refl;
@@ -121,19 +119,19 @@ module _ {s z b a : List ℕ} {v : Verdict} {q : Refusal} (c : Cleared (suc limi
     t-plus = rw refuses refl;
   }
 
-  pub length-refused : Measured s (Word.Refused r)
+  pub length-refused : Measured s (Replies.Refused r)
   length-refused = record { are-bytes = d .are-bytes; result = rw refuses refl }
 
 -- The tables of a record that is accepted give its tree pair and its length.
 module _ {s z b a : List ℕ} {v : Verdict} (c : Cleared (suc limit) z) (d : Decoded s z z b a v) (e : v ≡ Accepted) where
-  pub pair-answer : {m p m′ p′ : List ℕ} (x : Pairing) (r : TreePair) → WrotePair b a m p m′ p′ x → r ≡ pairingIn x
+  pub pair-answer : {m p m′ p′ : List ℕ} (x : Pairing) (r : Reply) → WrotePair b a m p m′ p′ x → r ≡ pairingIn x
       → Paired s m p m′ p′ r
   pair-answer {m} {p} {m′} {p′} x r w is =
       let f = read-accepted c d e in
-      subst (λ (t : TreePair). Paired s m p m′ p′ t) (sym is) (pair-read c (f .1) x w)
+      subst (λ (t : Reply). Paired s m p m′ p′ t) (sym is) (pair-read c (f .1) x w)
 
-  pub length-answer : (l : Length) (r : WordLength) → lengthOf l ≡ tableLength b a → r ≡ lengthIn l
+  pub length-answer : (l : Length) (r : Reply) → lengthOf l ≡ tableLength b a → r ≡ lengthIn l
       → Measured s r
   length-answer l r h is =
       let f = read-accepted c d e in
-      record { are-bytes = d .are-bytes; result = ap wordLengthOf is ∙ length-read c (f .1) l h }
+      record { are-bytes = d .are-bytes; result = ap replyOf is ∙ length-read c (f .1) l h }

@@ -12,26 +12,14 @@ use lib.ListN.{length}
 use lib.Dec.{ltb}
 use lib.Seq.{sets}
 use Rattle.group.specs.Forms.{Form}
-use Rattle.refusals.specs.Outcomes.{Outcome, accepted, refused, after, then, valued, refusal}
+use Rattle.refusals.specs.Outcomes.{Outcome, accepted, refused, after, then, valued, replyOf}
 use Rattle.records.specs.Reading.{decode}
-use Rattle.records.specs.Faults.{Bytes}
+use Rattle.fields.specs.Fields.{Bytes}
 use Rattle.trees.specs.Trees.{Tree}
 use Rattle.trees.specs.Pairs.{caretsOf, minusTree, plusTree}
 use Rattle.trees.specs.Shapes.{shape, shapeSize}
 use Rattle.lengths.specs.Weights.{formLength}
-use Rattle.pairs.specs.declared.TreePair.{TreePair}
-use Rattle.pairs.specs.declared.TreePair.the-variants as Pair
-use Rattle.pairs.specs.declared.WordLength.{WordLength}
-use Rattle.pairs.specs.declared.WordLength.the-variants as Word
-
--- The outcome of each answer: the number of carets, or the length.
-abbrev pub treePairOf : TreePair → Outcome ℕ
-treePairOf (Pair.Carets n) = accepted n
-treePairOf (Pair.Refused r) = refusal r
-
-abbrev pub wordLengthOf : WordLength → Outcome ℕ
-wordLengthOf (Word.Letters n) = accepted n
-wordLengthOf (Word.Refused r) = refusal r
+use Rattle.refusals.specs.declared.Reply.{Reply}
 
 -- The form of a record, beside buffers of the lengths m and p: both need room for a shape of N carets.
 abbrev pub pairedIn : (s : List ℕ) (m p : ℕ) → Outcome Form
@@ -45,13 +33,13 @@ abbrev pub treeAfter : (Form → Tree) → Outcome Form → List ℕ → List �
 treeAfter tree o buffer = after o buffer (λ f. sets buffer 0 (shape (tree f)))
 
 -- N, and the shapes of T− and T+ at the front of the first and the second buffer. What is lent as a record are bytes.
-pub record Paired (s minus plus minus′ plus′ : List ℕ) (r : TreePair) : Type 0 where
+pub record Paired (s minus plus minus′ plus′ : List ℕ) (r : Reply) : Type 0 where
   pub are-bytes : Bytes s
-  pub result : treePairOf r ≡ valued caretsOf (pairedIn s (length minus) (length plus))
+  pub result : replyOf r ≡ valued caretsOf (pairedIn s (length minus) (length plus))
   pub t-minus : minus′ ≡ treeAfter minusTree (pairedIn s (length minus) (length plus)) minus
   pub t-plus : plus′ ≡ treeAfter plusTree (pairedIn s (length minus) (length plus)) plus
 
 -- The length of the record's form, or its refusal. What is lent as a record are bytes.
-pub record Measured (s : List ℕ) (r : WordLength) : Type 0 where
+pub record Measured (s : List ℕ) (r : Reply) : Type 0 where
   pub are-bytes : Bytes s
-  pub result : wordLengthOf r ≡ valued formLength (decode s)
+  pub result : replyOf r ≡ valued formLength (decode s)

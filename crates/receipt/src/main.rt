@@ -8,7 +8,7 @@ use receipts::OUTPUT;
 use receipts::PART;
 use receipts::Served;
 use receipts::Serving;
-use refusals::Written;
+use refusals::Reply;
 
 // Behind a turn: whether there may be more input, whether all went well, and what is kept of the line that has begun.
 pub struct Turn {
@@ -36,10 +36,10 @@ fn write(out: &[u8], n: usize) -> bool {
 }
 
 // Writes what a call put at the front of the output buffer.
-fn write_placed(out: &[u8], placed: Written) -> bool {
+fn write_placed(out: &[u8], placed: Reply) -> bool {
     match placed {
-        Written::Bytes(n) => write(out, n),
-        Written::Refused(_) => false,
+        Reply::Number(n) => write(out, n),
+        Reply::Refused(_) => false,
     }
 }
 

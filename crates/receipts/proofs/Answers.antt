@@ -14,7 +14,7 @@ use Rattle.receipts.specs.inside.Taking.{PartTaken}
 use Rattle.receipts.specs.declared.Served.{Served}
 use Rattle.receipts.specs.declared.Serving.{Serving}
 use Rattle.receipts.specs.declared.Serving.the-variants.{Taken}
-use Rattle.receipts.proofs.Calls.{fit-short, fit-long}
+use Rattle.refusals.proofs.Placing.{fit-short, fit-long}
 
 -- What `is_enough` answers.
 pub not-enough : (out n : ℕ) {r : Bool} → r ≡ not (ltb out (partSize n)) → not r ≡ true → out < partSize n

@@ -5,45 +5,21 @@ use mathlib.Core.List.{List, [], _∷_}
 use Prim.Native.Nat.{ℕ, _^_, _<_, _≤_}
 use native.Mathlib.Decide.{decLt}
 use native.Mathlib.Omega.{arith}
-use borrow.Author.Tests.{lt-ltb, le-ltb}
 use lib.ListN.{length, take, length-append, length-take}
 use lib.Seq.{sets}
 use Rattle.lists.proofs.Writes.{sets-front}
 use Rattle.lines.specs.Lines.{lastLine}
-use Rattle.refusals.specs.Outcomes.{Outcome, accepted, refused, after, then, valued, writtenOf}
-use Rattle.refusals.specs.declared.Written.{Written}
+use Rattle.refusals.specs.Outcomes.{Outcome, accepted, after, then, replyOf}
+use Rattle.refusals.specs.declared.Reply.{Reply}
 use Rattle.refusals.proofs.Outcomes.{accepted-same, accepted-refused}
+use Rattle.refusals.proofs.Placing.{fit-short, fit-long, placed-front}
 use Rattle.receipts.specs.Receipts.{receiptOf, receiptsFrom}
 use Rattle.receipts.specs.Serving.{Amid, lineSize, served, receiptSize, partSize}
-use Rattle.receipts.specs.Contracts.{fitting, Placed, Finished}
-use Rattle.receipts.specs.Contracts.{servingOf, answerOf, servedIn, ServedPart}
+use Rattle.receipts.specs.Contracts.{Finished, servingOf, answerOf, servedIn, ServedPart}
 use Rattle.receipts.specs.declared.Served.{Served}
 use Rattle.receipts.specs.declared.Serving.{Serving}
 use Rattle.receipts.proofs.Sizes.{receipt-length}
 use Rattle.receipts.proofs.Bounds.{served-bounds}
-
-module _ {A : Type 0} (size : ℕ) (x : A) (out : List ℕ) where
-  -- A buffer that is too short.
-  pub fit-short : length out < size → fitting size x out ≡ refused 7 0
-  fit-short h = simp (lt-ltb (length out) size h)
-
-  -- One that is long enough.
-  pub fit-long : size ≤ length out → fitting size x out ≡ accepted x
-  fit-long h = simp (le-ltb (length out) size h)
-
--- A text that was placed: the buffer is long enough, and the text stands at its front.
-pub placed-front : {size : ℕ} {text out out′ : List ℕ} {r : Written} {n : ℕ} → Placed size text out out′ r
-    → length text ≤ size → writtenOf r ≡ accepted n → take n out′ ≡ text
-placed-front {size} {text} {out} {out′} {r} {n} h le e = go (decLt (length out) size)
-  where
-    go : Dec (length out < size) → take n out′ ≡ text
-    go (yes short) =
-        absurd (accepted-refused (sym e ∙ h .result ∙ ap (valued length) (fit-short size text out short)))
-    go (no long) =
-        let fits : fitting size text out ≡ accepted text = fit-long size text out (omega arith) in
-        let same : n ≡ length text = accepted-same (sym e ∙ h .result ∙ ap (valued length) fits) in
-        ap (take n) (h .bytes ∙ ap (λ (o : Outcome (List ℕ)). after o out (λ t. sets out 0 t)) fits)
-        ∙ sets-front text out n (sym same) (omega (arith, long, le, same))
 
 -- The receipt of a last line fits into the size stated.
 pub last-size : (k : ℕ) (l : List ℕ) (n : ℕ) → k < 2 ^ 64 → length l ≤ n
@@ -53,8 +29,8 @@ last-size k (x ∷ l) n h le =
     omega (arith, length-append (receiptOf k (x ∷ l)) [], receipt-length k (x ∷ l) h, le)
 
 -- What `finish` writes.
-pub finish-front : (k held : ℕ) (line : List ℕ) {out out′ : List ℕ} {r : Written} {n : ℕ}
-    → Finished k held line out out′ r → k < 2 ^ 64 → length line ≡ lineSize → writtenOf r ≡ accepted n
+pub finish-front : (k held : ℕ) (line : List ℕ) {out out′ : List ℕ} {r : Reply} {n : ℕ}
+    → Finished k held line out out′ r → k < 2 ^ 64 → length line ≡ lineSize → replyOf r ≡ accepted n
     → take n out′ ≡ receiptsFrom k (lastLine (take held line))
 finish-front k held line h few size e =
     placed-front h (last-size k (take held line) lineSize few (omega (arith, length-take held line, size))) e

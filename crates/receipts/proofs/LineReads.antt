@@ -12,9 +12,8 @@ use Rattle.group.specs.Bytes.{Reading, isWord, notLetter, readWord}
 use Rattle.group.specs.Limits.{limit}
 use Rattle.refusals.specs.Outcomes.{accepted, refused, then}
 use Rattle.records.specs.Format.{bufferSize}
-use Rattle.forest.specs.Judging.{judgedReading}
+use Rattle.letters.specs.Judging.{judgedReading, lineRead}
 use Rattle.words.specs.Recording.{Memory, judgedWith}
-use Rattle.receipts.specs.Receipts.{lineRead}
 use Rattle.receipts.specs.inside.Steps.{LineRoom}
 
 module _ (n nb na nr : ℕ) (hb : n ≤ limit → suc n ≤ nb) (ha : n ≤ limit → suc n ≤ na)

@@ -13,10 +13,10 @@ use Rattle.group.specs.Limits.{limit}
 use Rattle.group.proofs.Bytes.{read-length}
 use Rattle.group.proofs.Sizes.{form-sum}
 use Rattle.refusals.specs.Refusals.{numberOf, placeOf}
-use Rattle.refusals.specs.Outcomes.{Outcome, accepted, refused, writtenOf}
+use Rattle.refusals.specs.Outcomes.{Outcome, accepted, refused, replyOf}
 use Rattle.refusals.specs.declared.Refusal.{Refusal}
-use Rattle.refusals.specs.declared.Written.{Written}
-use Rattle.refusals.specs.declared.Written.the-variants.{Bytes, Refused}
+use Rattle.refusals.specs.declared.Reply.{Reply}
+use Rattle.refusals.specs.declared.Reply.the-variants.{Number, Refused}
 use Rattle.refusals.proofs.Outcomes.{valued-refused, valued-accepted}
 use Rattle.records.specs.Format.{encode, bufferSize}
 use Rattle.records.proofs.Lengths.{encode-size}
@@ -25,12 +25,13 @@ use Rattle.lengths.specs.Weights.{formLength}
 use Rattle.forest.specs.Filling.{tableAfter}
 use Rattle.words.specs.Recording.{encodeWord, bufferAfter, Memory, judgedWith, Recorded}
 use Rattle.words.proofs.Judged.{RecordFit, accepted-record}
-use Rattle.receipts.specs.Receipts.{refusalReceipt, lineRead, receiptBy, receiptOf}
+use Rattle.receipts.specs.Receipts.{refusalReceipt, receiptBy, receiptOf}
+use Rattle.letters.specs.Judging.{lineRead}
 use Rattle.receipts.specs.inside.Steps.{valueIn, recordRow, tablesRow, LineRoom}
 use Rattle.receipts.proofs.LineReads.{line-judged}
 use Rattle.receipts.proofs.WordTables.{sideTable, table-carets, table-length}
 
-module _ {line : List ℕ} {m m′ : Memory} {r : Written} (h : LineRoom line m) (c : Recorded line m m′ r) where
+module _ {line : List ℕ} {m m′ : Memory} {r : Reply} (h : LineRoom line m) (c : Recorded line m m′ r) where
   -- What the call judges is what the line is read as.
   judged-line : judgedWith line m ≡ lineRead line
   judged-line = line-judged h
@@ -41,15 +42,15 @@ module _ {line : List ℕ} {m m′ : Memory} {r : Written} (h : LineRoom line m)
   receipt-refused q number e =
       let so : judgedWith line m ≡ refused (numberOf q) (placeOf q) =
       valued-refused (λ w. length (encodeWord w)) (judgedWith line m) (numberOf q) (placeOf q)
-      (sym (c .result) ∙ ap writtenOf e) in
+      (sym (c .result) ∙ ap replyOf e) in
       ap (receiptBy number) (sym so ∙ judged-line)
 
   -- The line is a word.
-  module _ (n : ℕ) (e : r ≡ Bytes n) where
+  module _ (n : ℕ) (e : r ≡ Number n) where
     -- The word, and the number of bytes of its record.
     found : (w : Word) × (judgedWith line m ≡ accepted w) × (length (encodeWord w) ≡ n)
     found =
-        valued-accepted (λ w. length (encodeWord w)) (judgedWith line m) n (sym (c .result) ∙ ap writtenOf e)
+        valued-accepted (λ w. length (encodeWord w)) (judgedWith line m) n (sym (c .result) ∙ ap replyOf e)
 
     fit : RecordFit line (length (m .b)) (length (m .a)) (length (m .buffer)) (found .0)
     fit = accepted-record line (length (m .b)) (length (m .a)) (length (m .buffer)) (found .0) (found .1)

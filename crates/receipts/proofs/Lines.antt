@@ -16,8 +16,8 @@ use Rattle.lines.proofs.Holding.{Holding, hold-none, hold-more}
 use Rattle.group.specs.Limits.{limit}
 use Rattle.group.specs.Bytes.{readWord}
 use Rattle.refusals.specs.Outcomes.{refused}
-use Rattle.forest.specs.Judging.{judgedReading}
-use Rattle.receipts.specs.Receipts.{lineRead, receiptBy, receiptOf, receiptsFrom}
+use Rattle.letters.specs.Judging.{judgedReading, lineRead}
+use Rattle.receipts.specs.Receipts.{receiptBy, receiptOf, receiptsFrom}
 use Rattle.receipts.specs.Serving.{Amid, lineSize, nextNumber, receiptThen, served}
 use Rattle.receipts.proofs.Parts.{served-end, served-more}
 

@@ -1,37 +1,13 @@
--- The answers of `begin` and `finish`: a text at the front of a buffer, or refusal 7. Assumes nothing.
-use mathlib.Core.Path.{_≡_, refl, sym, ap, _∙_}
+-- What `finish` writes: the receipt of a last line that is not empty, or nothing. Assumes nothing.
+use mathlib.Core.Path.{_≡_, refl, sym, ap}
 use mathlib.Core.List.{List, [], _∷_, append-nil}
-use Prim.Native.Nat.{ℕ, zero, suc, _<_, _≤_}
+use Prim.Native.Nat.{ℕ, zero, suc, _<_}
 use native.Mathlib.Omega.{arith}
 use lib.ListN.{length, take}
-use lib.Seq.{sets}
 use Rattle.lists.specs.inside.Writes.{Wrote}
 use Rattle.lists.proofs.Writes.{wrote-same, wrote-none}
 use Rattle.lines.specs.Lines.{lastLine}
-use Rattle.refusals.specs.Outcomes.{Outcome, accepted, refused, after, valued, writtenOf}
-use Rattle.refusals.specs.declared.Written.{Written}
 use Rattle.receipts.specs.Receipts.{receiptOf, receiptsFrom}
-use Rattle.receipts.specs.Contracts.{Placed}
-use Rattle.receipts.proofs.Calls.{fit-short, fit-long}
-
-module _ (size : ℕ) (text out : List ℕ) (r : Written) where
-  -- The buffer is too short.
-  pub place-short : writtenOf r ≡ refused 7 0 → length out < size → Placed size text out out r
-  place-short e h = record {
-    result = e ∙ sym (ap (valued length) (fit-short size text out h));
-    bytes = sym (ap (λ (o : Outcome (List ℕ)). after o out (λ t. sets out 0 t)) (fit-short size text out h));
-  }
-
-  -- The text was written.
-  pub place-long : {out′ : List ℕ} {n : ℕ} → writtenOf r ≡ accepted n → size ≤ length out → Wrote text out 0 out′ n
-      → Placed size text out out′ r
-  place-long {out′} {n} e h w =
-      let count : n ≡ length text = omega (arith, w .ends) in
-      record {
-        result = e ∙ ap accepted count ∙ sym (ap (valued length) (fit-long size text out h));
-        bytes =
-            w .holds ∙ sym (ap (λ (o : Outcome (List ℕ)). after o out (λ t. sets out 0 t)) (fit-long size text out h));
-      }
 
 -- No byte is held: nothing is written.
 pub last-none : (k held : ℕ) (line out : List ℕ) → held ≡ 0

@@ -19,9 +19,9 @@ use Rattle.records.specs.Format.{encode}
 use Rattle.records.proofs.Lengths.{encode-size}
 use Rattle.trees.specs.Pairs.{caretsOf}
 use Rattle.lengths.specs.Weights.{formLength}
-use Rattle.forest.specs.Judging.{judgedReading}
+use Rattle.letters.specs.Judging.{judgedReading, lineRead}
 use Rattle.receipts.specs.Text.{ascii, decimal, hexOf}
-use Rattle.receipts.specs.Receipts.{joinFields, formReceipt, refusalReceipt, lineRead, receiptBy, receiptOf}
+use Rattle.receipts.specs.Receipts.{joinFields, formReceipt, refusalReceipt, receiptBy, receiptOf}
 use Rattle.receipts.specs.Serving.{receiptSize}
 use Rattle.receipts.specs.inside.Steps.{refusalSize}
 use Rattle.receipts.proofs.Decimals.{decimal-length}

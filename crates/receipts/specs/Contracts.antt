@@ -2,38 +2,28 @@
 -- part of the input, `finish` is called behind the last part. Refusal 7: the output buffer is too short for the size
 -- stated. Assumes nothing.
 use mathlib.Core.Path.{_≡_}
-use mathlib.Core.Bool.{cond}
 use mathlib.Core.List.{List}
 use Prim.Native.Nat.{ℕ}
 use lib.ListN.{length, take}
-use lib.Dec.{ltb}
 use lib.Seq.{sets}
 use Rattle.lines.specs.Lines.{lastLine}
-use Rattle.refusals.specs.Outcomes.{Outcome, accepted, refused, after, then, valued, writtenOf, refusal}
-use Rattle.refusals.specs.declared.Written.{Written}
+use Rattle.refusals.specs.Outcomes.{Outcome, accepted, after, then, refusal}
+use Rattle.refusals.specs.Placing.{fitting, Placed}
+use Rattle.refusals.specs.declared.Reply.{Reply}
 use Rattle.receipts.specs.declared.Served.{Served}
 use Rattle.receipts.specs.declared.Serving.{Serving}
 use Rattle.receipts.specs.declared.Serving.the-variants.{Taken, Refused}
 use Rattle.receipts.specs.Receipts.{header, receiptsFrom}
 use Rattle.receipts.specs.Serving.{Amid, lineSize, served, receiptSize, partSize}
 
--- A buffer that is long enough for a size, or refusal 7.
-abbrev pub fitting : {A : Type 0} → (size : ℕ) → A → List ℕ → Outcome A
-fitting size x out = cond (ltb (length out) size) (refused 7 0) (accepted x)
-
--- A text at the front of a buffer, for which it needs a size; everything beyond is unchanged.
-pub record Placed (size : ℕ) (text out out′ : List ℕ) (r : Written) : Type 0 where
-  pub result : writtenOf r ≡ valued length (fitting size text out)
-  pub bytes : out′ ≡ after (fitting size text out) out (λ t. sets out 0 t)
-
 -- The header.
-abbrev pub Begun : (out out′ : List ℕ) → Written → Type 0
-Begun out out′ r = Placed (length header) header out out′ r
+abbrev pub Begun : (out out′ : List ℕ) → Reply → Type 0
+Begun out out′ r = Placed (fitting (length header) header out) out out′ r
 
 -- The receipt of an unended last line, or nothing where no byte is held.
-abbrev pub Finished : (number held : ℕ) (line out out′ : List ℕ) → Written → Type 0
+abbrev pub Finished : (number held : ℕ) (line out out′ : List ℕ) → Reply → Type 0
 Finished number held line out out′ r =
-    Placed (receiptSize lineSize) (receiptsFrom number (lastLine (take held line))) out out′ r
+    Placed (fitting (receiptSize lineSize) (receiptsFrom number (lastLine (take held line))) out) out out′ r
 
 -- The outcome of each answer of `serve`.
 abbrev pub servingOf : Serving → Outcome Served

@@ -13,7 +13,7 @@ use Rattle.refusals.specs.Outcomes.{Outcome, accepted, refused}
 use Rattle.records.specs.Format.{encode}
 use Rattle.trees.specs.Pairs.{caretsOf}
 use Rattle.lengths.specs.Weights.{formLength}
-use Rattle.forest.specs.Judging.{judged}
+use Rattle.letters.specs.Judging.{lineRead}
 use Rattle.receipts.specs.Text.{ascii, decimal, hexOf}
 
 -- One space parts the fields of a line, and byte 0A hex ends it.
@@ -36,10 +36,6 @@ formReceipt number letters f =
 abbrev pub refusalReceipt : (number refusal place : ℕ) → List ℕ
 refusalReceipt number refusal place =
     joinFields (decimal number ∷ ascii "refused" ∷ decimal refusal ∷ decimal place ∷ [])
-
--- The word that a line is, or refusal 1 or 2 of it: tables of as many entries as the word asks for are never too short.
-abbrev pub lineRead : List ℕ → Outcome Word
-lineRead line = judged line (length line + 1) (length line + 1)
 
 -- The receipt of a line by what it is read as.
 abbrev pub receiptBy : ℕ → Outcome Word → List ℕ

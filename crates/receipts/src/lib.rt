@@ -11,7 +11,7 @@ ghost use Rattle.receipts.specs.inside.Taking.{PartTaken};
 use records::BASE_SIZE;
 use refusals::LIMIT;
 use refusals::Refusal;
-use refusals::Written;
+use refusals::Reply;
 
 mod receipt;
 mod text;
@@ -48,13 +48,13 @@ pub enum Serving {
 }
 
 // The header, at the front of a buffer.
-pub fn begin(out: &mut [u8]) -> Written
+pub fn begin(out: &mut [u8]) -> Reply
     ensures { λ r. ⌜ Begun (now (out .entry)) (now (out .exit)) r ⌝ }
 {
     if out.len() < HEADER_SIZE {
-        return Written::Refused(Refusal::ShortBuffer);
+        return Reply::Refused(Refusal::ShortBuffer);
     }
-    Written::Bytes(text::put(b"line letters carets length record\n", out, 0))
+    Reply::Number(text::put(b"line letters carets length record\n", out, 0))
 }
 
 // Whether a buffer is long enough for the receipts of a part.
@@ -119,14 +119,14 @@ pub fn serve(
 }
 
 // Behind the last part: the receipt of a line that has no end, at the front of the buffer.
-pub fn finish(number: u64, held: usize, line: &[u8; LINE], out: &mut [u8]) -> Written
+pub fn finish(number: u64, held: usize, line: &[u8; LINE], out: &mut [u8]) -> Reply
     ensures { λ r. ⌜ Finished number held (now (line .entry)) (now (out .entry)) (now (out .exit)) r ⌝ }
 {
     if out.len() < LONG_RECEIPT {
-        return Written::Refused(Refusal::ShortBuffer);
+        return Reply::Refused(Refusal::ShortBuffer);
     }
     if held == 0 {
-        return Written::Bytes(0);
+        return Reply::Number(0);
     }
-    Written::Bytes(receipt::put_held(number, line, held, out, 0))
+    Reply::Number(receipt::put_held(number, line, held, out, 0))
 }

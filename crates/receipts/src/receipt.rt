@@ -17,7 +17,7 @@ use lengths::Length;
 use records::BASE_SIZE;
 use refusals::LIMIT;
 use refusals::Refusal;
-use refusals::Written;
+use refusals::Reply;
 use trees::Pairing;
 
 // The bytes of the longest record that a word has.
@@ -126,8 +126,8 @@ fn put_in(
 {
     let written = words::word_to_record(line, b, a, record);
     match written {
-        Written::Refused(r) => put_refusal(number, r, out, at),
-        Written::Bytes(n) => {
+        Reply::Refused(r) => put_refusal(number, r, out, at),
+        Reply::Number(n) => {
             let entries = line.len() + 1;
             put_tables(
                 number,

@@ -13,11 +13,13 @@ use Rattle.group.proofs.Reduced.{Canonical}
 use Rattle.refusals.specs.Outcomes.{accepted}
 use Rattle.records.specs.Format.{Power, powers, entries, encode, Within, IsRecord}
 use Rattle.records.specs.Reading.{bPowers, aPowers, exponentAt, decode}
-use Rattle.records.specs.Faults.{Bytes, formRead}
+use Rattle.records.specs.Faults.{formRead}
+use Rattle.fields.specs.Fields.{Bytes}
 use Rattle.records.proofs.Framing.{fields, frames→frame, frame-written}
 use Rattle.records.specs.inside.Steps.{Proper}
 use Rattle.records.proofs.ProperPowers.{total, proper-equal}
-use Rattle.records.proofs.Levels.{upTo-trimmed, exponents-total}
+use Rattle.records.proofs.Levels.{exponents-total}
+use Rattle.group.proofs.UpTo.{upTo-trimmed}
 use Rattle.records.proofs.ReadBack.{sidePowers, form-exponent, powers-exponent, form-proper}
 use Rattle.records.proofs.ReadBack.{frames-encode, powers-encode, form-encode}
 use Rattle.records.proofs.Clause.{applies-reduced, reduced-applies}

@@ -1,6 +1,6 @@
 -- The loop over the indices: the reduced form's clause, tested on two tables that show a form. Assumes nothing.
 use mathlib.Core.Path.{_≡_, refl, sym, ap, _∙_}
-use mathlib.Core.Bool.{Bool, true, false, cond}
+use mathlib.Core.Bool.{Bool, true, false, cond, true≢false}
 use mathlib.Core.List.{List}
 use Prim.Native.Nat.{ℕ, zero, suc, _+_, _-_, _<_, _≤_}
 use native.Mathlib.Numerals.{add-one}
@@ -10,7 +10,7 @@ use Rattle.group.specs.Forms.{Form}
 use Rattle.group.specs.Limits.{limit}
 use Rattle.refusals.specs.Outcomes.{Outcome, accepted, refused, dropValue}
 use Rattle.records.specs.Reading.{breaks, findBreak}
-use Rattle.records.specs.inside.Steps.{isBreak, Shown}
+use Rattle.records.specs.inside.Steps.{isBreak, Shown, NoBreak}
 
 -- The tables' test at an index is the form's.
 shown-break : (f : Form) (b a : List ℕ) (i : ℕ) → Shown f b a → i ≤ limit
@@ -71,3 +71,27 @@ module _ {b a : List ℕ} {i : ℕ} (h : Unbroken b a i) (f : Form) (sh : Shown 
   break-nowhere lt =
       ap (λ (o : Outcome Form). dropValue o)
       (sym (first-none f i (suc limit - i) (omega (arith, lt))) ∙ h .goes-on f sh)
+
+-- The loop without an exit: where no break was found so far, no index below i breaks the clause.
+pub record SeenSo (b a : List ℕ) (found : Bool) (i : ℕ) : Type 0 where
+  pub unbroken : found ≡ false → Unbroken b a i
+
+pub seen-none : (b a : List ℕ) → SeenSo b a false 0
+seen-none b a = record { unbroken = λ e. record { goes-on = λ f h. refl } }
+
+pub seen-more : {b a : List ℕ} {found more : Bool} {i : ℕ} → SeenSo b a found i → i ≤ limit
+    → more ≡ cond (isBreak (getD b i 0) (getD a i 0) (getD b (i + 1) 0) (getD a (i + 1) 0)) true found
+    → SeenSo b a more (i + 1)
+seen-more {b} {a} {found} {more} {i} s le e =
+    go (isBreak (getD b i 0) (getD a i 0) (getD b (i + 1) 0) (getD a (i + 1) 0)) refl e
+  where
+    go : (t : Bool) → isBreak (getD b i 0) (getD a i 0) (getD b (i + 1) 0) (getD a (i + 1) 0) ≡ t
+        → more ≡ cond t true found → SeenSo b a more (i + 1)
+    go true q m = record { unbroken = λ k. absurd (true≢false (sym m ∙ k)) }
+    go false q m = record {
+      unbroken = λ k. record { goes-on = λ f h. break-later (s .unbroken (sym m ∙ k)) f h le (sym q) };
+    }
+
+-- None was found at all.
+pub seen-all : {b a : List ℕ} {found : Bool} {i : ℕ} → SeenSo b a found i → limit < i → found ≡ false → NoBreak b a
+seen-all s lt e = λ f h. break-nowhere (s .unbroken e) f h lt

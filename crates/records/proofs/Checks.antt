@@ -9,18 +9,17 @@ use lib.ListN.{getD, replicate}
 use Rattle.lists.specs.Tables.{filled}
 use Rattle.lists.proofs.Tables.{filled-at, filled-beyond}
 use Rattle.lists.proofs.Totals.{same-replicate}
-use Rattle.group.specs.Forms.{Side, bSide, aSide, Form, exponent}
+use Rattle.group.specs.Forms.{Side, bSide, aSide, exponent}
 use Rattle.group.specs.Limits.{limit}
-use Rattle.refusals.specs.Outcomes.{Outcome, accepted, refused, then, dropValue, verdictOf}
-use Rattle.refusals.specs.declared.Verdict.{Verdict}
-use Rattle.records.specs.declared.reading.Frame.the-variants.{Exact, Broken}
+use Rattle.refusals.specs.Outcomes.{Outcome, accepted, refused, then, dropValue}
+use Rattle.records.specs.declared.frame.Frame.the-variants.{Exact, Broken}
 use Rattle.records.specs.Reading.{bLength, aLength, aStart, frames, bPowers, aPowers, exponentAt, scan}
 use Rattle.records.specs.Reading.{reducedForm, readEntries, decode}
 use Rattle.records.specs.Faults.{formRead}
-use Rattle.records.specs.inside.Steps.{frameOf, scanBoth, BreakFound}
-use Rattle.refusals.proofs.Outcomes.{accepted-refused}
+use Rattle.records.specs.inside.Steps.{frameOf, scanBoth, Shown}
+use Rattle.refusals.proofs.Outcomes.{drop-accepted, drop-refused}
 use Rattle.records.proofs.ReadBack.{sidePowers}
-use Rattle.records.proofs.Levels.{upTo-below, upTo-behind}
+use Rattle.group.proofs.UpTo.{upTo-below, upTo-behind}
 
 -- A table of zeros, as long as the check's own.
 abbrev zeros : List ℕ
@@ -44,22 +43,21 @@ shown-side s d i = go (decLe (suc i) (suc limit))
         ∙ same-replicate (suc (suc limit)) i
         ∙ sym (upTo-behind (suc limit) (exponentAt (bPowers s)) (exponentAt (aPowers s)) d i (omega (arith, ge)))
 
--- The clause, tested on the exponents of a record's powers.
-pub reduced-by : (s b a : List ℕ) (r : Verdict) → b ≡ filled (suc limit) (exponentAt (bPowers s)) zeros
-    → a ≡ filled (suc limit) (exponentAt (aPowers s)) zeros → BreakFound b a r → verdictOf r ≡ dropValue (reducedForm s)
-reduced-by s b a r p q found = found (formRead s) (λ i le. (
+-- Tables of zeros, filled with the exponents of a record's powers, show its form.
+pub tables-show : (s b a : List ℕ) → b ≡ filled (suc limit) (exponentAt (bPowers s)) zeros
+    → a ≡ filled (suc limit) (exponentAt (aPowers s)) zeros → Shown (formRead s) b a
+tables-show s b a p q i le = (
   ap (λ (l : List ℕ). getD l i 0) p ∙ shown-side s bSide i,
   ap (λ (l : List ℕ). getD l i 0) q ∙ shown-side s aSide i,
-))
+)
 
 -- The fields do not frame the bytes.
-pub check-broken : (s : List ℕ) → frameOf s ≡ Broken → refused 3 0 ≡ dropValue (decode s)
-check-broken s e = go (frames s) refl e
+pub decode-broken : (s : List ℕ) → frameOf s ≡ Broken → decode s ≡ refused 3 0
+decode-broken s e = go (frames s) refl e
   where
-    go : (p : Bool) → frames s ≡ p → cond p (Exact (bLength s) (aLength s)) Broken ≡ Broken
-        → refused 3 0 ≡ dropValue (decode s)
+    go : (p : Bool) → frames s ≡ p → cond p (Exact (bLength s) (aLength s)) Broken ≡ Broken → decode s ≡ refused 3 0
     go true t h = let w : _≡_ {A = ℕ} 0 1 = cc in absurd (omega arith)
-    go false t h = ap (λ (p : Bool). dropValue (cond p (readEntries s) (refused 3 0))) (sym t)
+    go false t h = ap (λ (p : Bool). cond p (readEntries s) (refused 3 0)) t
 
 -- They do, and the rest of the reading decides.
 framed-reads : (s : List ℕ) (b a : ℕ) → frameOf s ≡ Exact b a → decode s ≡ readEntries s
@@ -81,21 +79,13 @@ entries-then s = go (scan 3 0 0 (bPowers s))
     go (refused n p) = refl
 
 module _ (s : List ℕ) {b a : ℕ} (e : frameOf s ≡ Exact b a) where
-  decode-then : then (scanBoth s) (λ sum. reducedForm s) ≡ decode s
-  decode-then = sym (framed-reads s b a e ∙ entries-then s)
+  decode-then : decode s ≡ then (scanBoth s) (λ sum. reducedForm s)
+  decode-then = framed-reads s b a e ∙ entries-then s
 
-  pub check-stops : (n p : ℕ) → refused n p ≡ dropValue (scanBoth s) → refused n p ≡ dropValue (decode s)
-  check-stops n p h = go (scanBoth s) refl h ∙ ap (λ (o : Outcome Form). dropValue o) decode-then
-    where
-      go : (o : Outcome ℕ) → scanBoth s ≡ o → refused n p ≡ dropValue o
-          → refused n p ≡ dropValue (then (scanBoth s) (λ sum. reducedForm s))
-      go (accepted x) q k = absurd (accepted-refused (sym k))
-      go (refused m r) q k = k ∙ ap (λ (o : Outcome ℕ). dropValue (then o (λ sum. reducedForm s))) (sym q)
+  pub decode-stops : (n p : ℕ) → refused n p ≡ dropValue (scanBoth s) → decode s ≡ refused n p
+  decode-stops n p h =
+      decode-then ∙ ap (λ (o : Outcome ℕ). then o (λ sum. reducedForm s)) (drop-refused (scanBoth s) h)
 
-  pub check-goes-on : accepted 0 ≡ dropValue (scanBoth s) → dropValue (reducedForm s) ≡ dropValue (decode s)
-  check-goes-on h = go (scanBoth s) refl h ∙ ap (λ (o : Outcome Form). dropValue o) decode-then
-    where
-      go : (o : Outcome ℕ) → scanBoth s ≡ o → accepted 0 ≡ dropValue o
-          → dropValue (reducedForm s) ≡ dropValue (then (scanBoth s) (λ sum. reducedForm s))
-      go (accepted x) q k = ap (λ (o : Outcome ℕ). dropValue (then o (λ sum. reducedForm s))) (sym q)
-      go (refused m r) q k = absurd (accepted-refused k)
+  pub decode-goes-on : accepted 0 ≡ dropValue (scanBoth s) → decode s ≡ reducedForm s
+  decode-goes-on h =
+      decode-then ∙ ap (λ (o : Outcome ℕ). then o (λ sum. reducedForm s)) (drop-accepted (scanBoth s) h .1)

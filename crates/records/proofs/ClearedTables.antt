@@ -13,7 +13,7 @@ use Rattle.lists.proofs.Totals.{same-replicate}
 use Rattle.group.specs.Forms.{Side, bSide, aSide, Form, exponent}
 use Rattle.group.specs.Limits.{limit}
 use Rattle.group.proofs.Reduced.{Canonical}
-use Rattle.refusals.specs.Outcomes.{Outcome, accepted, refused, dropValue, refusal, verdictOf}
+use Rattle.refusals.specs.Outcomes.{Outcome, accepted, refused, then, dropValue, refusal, verdictOf}
 use Rattle.refusals.specs.inside.Verdicts.{refusalIn}
 use Rattle.refusals.specs.declared.Refusal.{Refusal}
 use Rattle.refusals.specs.declared.Verdict.{Verdict}
@@ -21,8 +21,8 @@ use Rattle.refusals.specs.declared.Verdict.the-variants.{Accepted, Refused}
 use Rattle.refusals.proofs.Outcomes.{drop-accepted, drop-refused}
 use Rattle.records.specs.Format.{Within}
 use Rattle.records.specs.Reading.{decode}
-use Rattle.records.specs.Faults.{Bytes}
-use Rattle.records.specs.inside.Contracts.{decodedIn, tableRead, Decoded}
+use Rattle.fields.specs.Fields.{Bytes}
+use Rattle.records.specs.inside.Contracts.{fits, tableRead, Decoded}
 use Rattle.records.proofs.Accepted.{decode-form}
 
 -- A table of n zeros with an entry for every index up to the limit.
@@ -62,10 +62,10 @@ module _ (f : Form) (w : Within f) {n : ℕ} {z : List ℕ} (c : Cleared n z) wh
           ∙ sym (within-behind f w s i (omega arith))
 
 -- Tables with an entry for every index are never too short for the reader.
-reader-room : (s : List ℕ) (n : ℕ) → suc limit ≤ n → decodedIn s n n ≡ decode s
+reader-room : (s : List ℕ) (n : ℕ) → suc limit ≤ n → then (decode s) (fits n n) ≡ decode s
 reader-room s n h = go (decode s) refl
   where
-    go : (o : Outcome Form) → decode s ≡ o → decodedIn s n n ≡ decode s
+    go : (o : Outcome Form) → decode s ≡ o → then (decode s) (fits n n) ≡ decode s
     go (refused k p) e = rw e refl
     go (accepted f) e = rw e (simp (le-ltb _ _ h))
 
@@ -80,11 +80,11 @@ pub record Read (s z b a : List ℕ) (f : Form) : Type 0 where
 
 -- What the reader left, from cleared tables.
 module _ {n : ℕ} {s z b a : List ℕ} {v : Verdict} (c : Cleared n z) (d : Decoded s z z b a v) where
-  whole : decodedIn s (length z) (length z) ≡ decode s
+  whole : then (decode s) (fits (length z) (length z)) ≡ decode s
   whole = reader-room s (length z) (omega (arith, c .size, c .room))
 
   judged : verdictOf v ≡ dropValue (decode s)
-  judged = d .result ∙ ap dropValue whole
+  judged = d .reads .result ∙ ap dropValue whole
 
   -- It refused.
   pub read-refused : {q : Refusal} → v ≡ Refused q → decode s ≡ refusal (refusalIn v)
@@ -103,7 +103,7 @@ module _ {n : ℕ} {s z b a : List ℕ} {v : Verdict} (c : Cleared n z) (d : Dec
           decodes = x .1;
           canonical = both .0;
           within = both .1;
-          b-holds = d .b-table ∙ ap (λ (o : Outcome Form). tableRead bSide o z) (whole ∙ x .1);
-          a-holds = d .a-table ∙ ap (λ (o : Outcome Form). tableRead aSide o z) (whole ∙ x .1);
+          b-holds = d .reads .b-table ∙ ap (λ (o : Outcome Form). tableRead bSide o z) (whole ∙ x .1);
+          a-holds = d .reads .a-table ∙ ap (λ (o : Outcome Form). tableRead aSide o z) (whole ∙ x .1);
         },
       )

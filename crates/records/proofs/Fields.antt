@@ -8,9 +8,10 @@ use native.Mathlib.Omega.{arith}
 use Rattle.group.specs.Limits.{limit}
 use Rattle.refusals.specs.Outcomes.{Outcome, accepted, refused, then, dropValue}
 use Rattle.records.specs.Format.{Power, baseSize}
-use Rattle.records.specs.Reading.{entriesAt, bPowers, aPowers, aStart, exponentAt, scan}
+use Rattle.records.specs.Reading.{entriesAt, bPowers, aPowers, aStart, exponentAt, scan, formOfPowers}
+use Rattle.records.specs.Faults.{formRead}
 use Rattle.records.specs.inside.Steps.{Proper, Ordered, scanBoth, frameOf}
-use Rattle.records.specs.declared.reading.Frame.the-variants.{Exact}
+use Rattle.records.specs.declared.frame.Frame.the-variants.{Exact}
 use Rattle.refusals.proofs.Outcomes.{accepted-refused}
 use Rattle.records.proofs.Scans.{passed→proper}
 use Rattle.records.proofs.Frames.{Opened, frame-opens}
@@ -79,3 +80,7 @@ module _ {s : List ℕ} {b a : ℕ} (h : Ordered s b a) where
     ap (λ (ps : List Power). filled (suc limit) (exponentAt ps) t) (first-powers opened),
     ap (λ (ps : List Power). filled (suc limit) (exponentAt ps) t) (second-powers opened),
   )
+
+  -- The form of the entries of both fields is the record's.
+  pub ordered-form : formOfPowers (entriesAt s 3 (b / 4)) (entriesAt s (baseSize + b) (a / 4)) ≡ formRead s
+  ordered-form = ap₂ formOfPowers (first-powers opened) (second-powers opened)

@@ -5,7 +5,7 @@ use mathlib.Core.List.{List}
 use Prim.Native.Nat.{ℕ, _+_}
 use native.Mathlib.Omega.{arith}
 use lib.ListN.{length}
-use Rattle.records.specs.declared.reading.Frame.the-variants.{Exact, Broken}
+use Rattle.records.specs.declared.frame.Frame.the-variants.{Exact, Broken}
 use Rattle.records.specs.Format.{baseSize}
 use Rattle.records.specs.Reading.{bLength, aLength, frames}
 use Rattle.records.specs.inside.Steps.{frameOf}

@@ -11,11 +11,12 @@ use lib.Dec.{eqb, ltb}
 use lib.ListN.{length, getD, drop, length-append}
 use lib.Seq.{drop-cons, drop-at, drop-length}
 use borrow.Author.Tests.{ltb-false, eqb-true, le-ltb, eq-eqb}
-use Rattle.records.specs.Format.{twoBytes, entries, field, bTag, aTag, baseSize}
-use Rattle.records.specs.Reading.{twoAt, bLength, aStart, aLength, frames, entriesAt, bPowers, aPowers}
-use Rattle.records.specs.Faults.{Bytes, Framed}
+use Rattle.records.specs.Format.{entries, bTag, aTag, baseSize}
+use Rattle.fields.specs.Fields.{twoBytes, field, twoAt, Bytes}
+use Rattle.records.specs.Reading.{bLength, aStart, aLength, frames, entriesAt, bPowers, aPowers}
+use Rattle.records.specs.Faults.{Framed}
 use Rattle.records.proofs.Tests.{both-left, both-right, true-both, unless-fails, unless-passes, fails-unless}
-use Rattle.records.proofs.WrittenEntries.{drop-on, read-at, two-read, two-written}
+use Rattle.fields.proofs.Numbers.{drop-on, read-at, two-read, two-written}
 use Rattle.records.proofs.Lengths.{entries-length}
 use Rattle.records.proofs.WrittenEntries.{entriesAt-length, entries-written}
 

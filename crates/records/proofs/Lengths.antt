@@ -5,7 +5,8 @@ use Prim.Native.Nat.{ℕ, suc, _+_, _*_, _≤_}
 use native.Mathlib.Omega.{arith}
 use lib.ListN.{length, length-append}
 use Rattle.group.specs.Forms.{bSide, aSide, Form, empty, level, exponents, exponentSum}
-use Rattle.records.specs.Format.{Power, power, powers, entries, field, bTag, aTag, recordOf}
+use Rattle.records.specs.Format.{Power, power, powers, entries, bTag, aTag, recordOf}
+use Rattle.fields.specs.Fields.{field}
 use Rattle.records.specs.Format.{encode, baseSize, bufferSize}
 use Rattle.records.proofs.Powers.{put-length, put-few}
 

@@ -3,6 +3,7 @@
 -- the powers of a table; the lengths of records; the tables of a form
 pub mod Powers
 pub mod Lengths
+pub mod WordForms
 pub mod FormTables
 -- tests; splittings of lists
 pub mod Tests
@@ -21,23 +22,19 @@ pub mod Clause
 pub mod Readings
 pub mod Accepted
 pub mod Refused
--- the writer's loops and answers
-pub mod WriteLoops
-pub mod WriteAnswers
 -- the reader's loops and answers
 pub mod Frames
-pub mod FieldsAt
 pub mod FramedFields
 pub mod Scanning
 pub mod Fields
 pub mod Placing
 pub mod Breaks
+-- the walk over the entries
+pub mod Merging
+pub mod MergedForms
+pub mod Walks
+-- the answers
 pub mod Checks
 pub mod Decodings
--- the calls of a walk by hand; what a field reader owns, its methods, and the places of readers
-pub mod ReturnedCalls
-pub mod ReaderParts
-pub mod ReaderMethods
-pub mod ReaderPlaces
 -- the exponents of a record in tables of zeros
 pub mod ClearedTables

@@ -12,7 +12,8 @@ use Rattle.lists.specs.Tables.{filled}
 use Rattle.lists.proofs.Tables.{filled-length, filled-at, filled-beyond, filled-by}
 use Rattle.group.specs.Limits.{limit}
 use Rattle.records.specs.Format.{Power, power}
-use Rattle.records.specs.Reading.{twoAt, entriesAt, exponentAt}
+use Rattle.records.specs.Reading.{entriesAt, exponentAt}
+use Rattle.fields.specs.Fields.{twoAt}
 use Rattle.records.specs.inside.Steps.{Proper, placePowers}
 use Rattle.records.proofs.WrittenEntries.{entries-next}
 use Rattle.records.proofs.ProperPowers.{proper-lower}

@@ -7,7 +7,8 @@ use native.Mathlib.Numerals.{add-one}
 use native.Mathlib.Omega.{arith}
 use lib.ListN.{length, drop, getD, drop-of-length-le}
 use lib.Seq.{drop-cons}
-use Rattle.records.specs.Format.{Power, putPower, powers, twoBytes, entries}
+use Rattle.records.specs.Format.{Power, putPower, powers, entries}
+use Rattle.fields.specs.Fields.{twoBytes}
 
 -- An exponent above 0 gives one power, of four bytes.
 pub entry-bytes : (i e : ℕ) → 0 < e → twoBytes i ++ twoBytes e ≡ entries (putPower i e [])

@@ -21,14 +21,14 @@ pub proper-lower : (ps : List Power) (low high : ℕ) → low ≤ high → Prope
 proper-lower [] low high h r = tt
 proper-lower (power i e ∷ ps) low high h r = (omega arith, r .1, r .2, r .3)
 
-at-index : (i e k : ℕ) (ps : List Power) → i ≡ k → exponentAt (power i e ∷ ps) k ≡ e
+pub at-index : (i e k : ℕ) (ps : List Power) → i ≡ k → exponentAt (power i e ∷ ps) k ≡ e
 at-index i e k ps h = rw (eq-eqb i k h) refl
 
-at-other : (i e k : ℕ) (ps : List Power) → (i ≡ k → ⊥) → exponentAt (power i e ∷ ps) k ≡ exponentAt ps k
+pub at-other : (i e k : ℕ) (ps : List Power) → (i ≡ k → ⊥) → exponentAt (power i e ∷ ps) k ≡ exponentAt ps k
 at-other i e k ps h = rw (ne-eqb i k h) refl
 
 -- An index below the first or above the limit has exponent 0.
-at-below : (ps : List Power) (low k : ℕ) → Proper low ps → k < low → exponentAt ps k ≡ 0
+pub at-below : (ps : List Power) (low k : ℕ) → Proper low ps → k < low → exponentAt ps k ≡ 0
 at-below [] low k r h = refl
 at-below (power i e ∷ ps) low k r h =
     at-other i e k ps (omega (arith, r .0)) ∙ at-below ps (suc i) k (r .3) (omega (arith, r .0))

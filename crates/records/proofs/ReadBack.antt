@@ -11,7 +11,8 @@ use lib.ListN.{length}
 use Rattle.group.specs.Forms.{Side, bSide, aSide, Form, onSide, exponent, Trimmed, exponents}
 use Rattle.group.specs.Limits.{limit}
 use Rattle.group.proofs.Exponents.{exponents-at, trimmed-equal}
-use Rattle.records.specs.Format.{Power, powers, entries, field, aTag, encode, Within}
+use Rattle.records.specs.Format.{Power, powers, entries, aTag, encode, Within}
+use Rattle.fields.specs.Fields.{field}
 use Rattle.records.specs.Reading.{bLength, aStart, aLength, frames, entriesAt, bPowers, aPowers}
 use Rattle.records.specs.Reading.{exponentAt, formOfPowers}
 use Rattle.records.proofs.Lengths.{entries-length}
@@ -19,7 +20,7 @@ use Rattle.records.proofs.WrittenEntries.{entries-read}
 use Rattle.records.proofs.Framing.{frame→frames, fields, fields-b, fields-a, fields-start, fields-frame}
 use Rattle.records.specs.inside.Steps.{Proper}
 use Rattle.records.proofs.ProperPowers.{at-above, powers-at, powers-proper}
-use Rattle.records.proofs.Levels.{upTo-below, upTo-behind, upTo-trimmed}
+use Rattle.group.proofs.UpTo.{upTo-below, upTo-behind, upTo-trimmed}
 
 abbrev pub sidePowers : Side → List ℕ → List Power
 sidePowers bSide bytes = bPowers bytes

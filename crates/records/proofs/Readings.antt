@@ -16,7 +16,7 @@ use Rattle.records.specs.Reading.{readEntries, decode}
 use Rattle.records.specs.Faults.{recordEntries, FirstFault, formRead, FirstBreak}
 use Rattle.records.specs.inside.Steps.{Proper}
 use Rattle.records.proofs.ProperPowers.{total}
-use Rattle.records.proofs.Levels.{upTo-index}
+use Rattle.group.proofs.UpTo.{upTo-index}
 use Rattle.records.proofs.ReadBack.{sidePowers}
 use Rattle.records.proofs.Scans.{Scanned, passes, stops, scanned}
 use Rattle.records.proofs.RecordFaults.{b-fault, a-fault}

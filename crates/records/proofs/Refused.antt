@@ -10,7 +10,8 @@ use native.Mathlib.Omega.{arith}
 use Rattle.group.specs.Forms.{bSide, aSide, Form}
 use Rattle.refusals.specs.Outcomes.{Outcome, refused}
 use Rattle.records.specs.Reading.{frames, decode}
-use Rattle.records.specs.Faults.{Bytes, Framed, recordEntries, Sound, FirstFault, formRead, FirstBreak}
+use Rattle.records.specs.Faults.{Framed, recordEntries, Sound, FirstFault, formRead, FirstBreak}
+use Rattle.fields.specs.Fields.{Bytes}
 use Rattle.refusals.proofs.Outcomes.{accepted-refused, refused-number, refused-place}
 use Rattle.records.proofs.Framing.{frames↔framed}
 use Rattle.records.proofs.RecordFaults.{record-sound, first-same}

@@ -8,7 +8,8 @@ use native.Mathlib.Omega.{arith}
 use lib.ListN.{length}
 use Rattle.group.specs.Limits.{limit}
 use Rattle.refusals.specs.Outcomes.{Outcome, accepted, refused}
-use Rattle.records.specs.Reading.{twoAt, entriesAt, isFaulty, scan}
+use Rattle.records.specs.Reading.{entriesAt, isFaulty, scan}
+use Rattle.fields.specs.Fields.{twoAt}
 use Rattle.records.proofs.WrittenEntries.{entries-next}
 use Rattle.records.proofs.Scans.{passed→fit}
 

@@ -1,31 +1,14 @@
--- Two-byte numbers and entries, written and read back: what follows an offset of the bytes is what was written there,
--- and bytes that are read are what would be written. Assumes nothing.
-use mathlib.Core.Path.{_≡_, refl, sym, _∙_, ap, ap₂}
+-- Entries written and read back: what follows an offset of the bytes is what was written there, and bytes that are read
+-- are what would be written. Assumes nothing.
+use mathlib.Core.Path.{_≡_, refl, _∙_, ap, ap₂}
 use mathlib.Core.List.{List, [], _∷_, _++_}
-use Prim.Native.Nat.{ℕ, zero, suc, _+_, _-_, _*_, _/_, _%_, _<_, _≤_}
-use native.Mathlib.Nat.{add-zero}
-use native.Mathlib.Numerals.{add-one}
+use Prim.Native.Nat.{ℕ, zero, suc, _+_, _-_, _*_, _<_, _≤_}
 use native.Mathlib.Omega.{arith}
-use lib.ListN.{length, getD, drop}
-use lib.Seq.{drop-cons, drop-drop, getD-drop}
-use Rattle.records.specs.Format.{Power, power, twoBytes, entries}
-use Rattle.records.specs.Reading.{twoAt, entriesAt}
-use Rattle.records.specs.Faults.{Bytes}
-
--- What follows a later offset, by what follows an earlier one.
-pub drop-on : (s t : List ℕ) (at k m : ℕ) → drop at s ≡ t → m ≡ at + k → drop m s ≡ drop k t
-drop-on s t at k m h e = ap (λ (n : ℕ). drop n s) e ∙ sym (drop-drop k at s) ∙ ap (λ (l : List ℕ). drop k l) h
-
-pub read-at : (s t : List ℕ) (at : ℕ) → drop at s ≡ t → getD s at 0 ≡ getD t 0 0
-read-at s t at h =
-    ap (λ (n : ℕ). getD s n 0) (sym (add-zero at)) ∙ sym (getD-drop at s 0 0) ∙ ap (λ (l : List ℕ). getD l 0 0) h
-
-read-next : (s t : List ℕ) (at : ℕ) → drop at s ≡ t → getD s (at + 1) 0 ≡ getD t 1 0
-read-next s t at h = sym (getD-drop at s 1 0) ∙ ap (λ (l : List ℕ). getD l 1 0) h
-
--- A number written in two bytes is read back.
-pub two-read : (s t : List ℕ) (at x : ℕ) → drop at s ≡ twoBytes x ++ t → twoAt s at ≡ x
-two-read s t at x h = omega (arith, read-at s (twoBytes x ++ t) at h, read-next s (twoBytes x ++ t) at h)
+use lib.ListN.{length, drop}
+use Rattle.fields.proofs.Numbers.{drop-on, two-read, two-written}
+use Rattle.records.specs.Format.{Power, power, entries}
+use Rattle.fields.specs.Fields.{Bytes, twoBytes, twoAt}
+use Rattle.records.specs.Reading.{entriesAt}
 
 -- The first of some entries, and the others.
 pub entries-next : (s : List ℕ) (at k : ℕ) → 0 < k
@@ -49,25 +32,6 @@ entries-read (power i e ∷ ps) s t at h =
 pub entriesAt-length : (s : List ℕ) (at k : ℕ) → length (entriesAt s at k) ≡ k
 entriesAt-length s at zero = refl
 entriesAt-length s at (suc k) = ap suc (entriesAt-length s (at + 4) k)
-
--- Two bytes that are read are those of the number.
-pub two-written : (s : List ℕ) (at m : ℕ) → Bytes s → m ≡ at + 2 → m ≤ length s
-    → drop at s ≡ twoBytes (twoAt s at) ++ drop m s
-two-written s at m bytes e h =
-    drop-cons s at 0 (omega arith)
-    ∙ ap (λ (l : List ℕ). getD s at 0 ∷ l) (drop-cons s (suc at) 0 (omega arith))
-    ∙ ap (λ (n : ℕ). getD s at 0 ∷ getD s n 0 ∷ drop (suc n) s) (sym (add-one at))
-    ∙ ap (λ (n : ℕ). getD s at 0 ∷ getD s (at + 1) 0 ∷ drop n s) end
-    ∙ ap₂ (λ (x y : ℕ). x ∷ y ∷ drop m s) high low
-  where
-    end : suc (at + 1) ≡ m
-    end = omega arith
-
-    high : getD s at 0 ≡ twoAt s at / 256
-    high = omega (arith, bytes at, bytes (at + 1))
-
-    low : getD s (at + 1) 0 ≡ twoAt s at % 256
-    low = omega (arith, bytes at, bytes (at + 1))
 
 -- Entries that are read are written so.
 pub entries-written : (s : List ℕ) (at k m : ℕ) → Bytes s → m ≡ at + 4 * k → m ≤ length s

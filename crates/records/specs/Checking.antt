@@ -6,7 +6,7 @@ use Prim.Native.Nat.{ℕ}
 use Rattle.refusals.specs.Outcomes.{dropValue, verdictOf}
 use Rattle.refusals.specs.declared.Verdict.{Verdict}
 use Rattle.records.specs.Reading.{decode}
-use Rattle.records.specs.Faults.{Bytes}
+use Rattle.fields.specs.Fields.{Bytes}
 
 -- Accepted, with nothing to say, or refused as the record is. What is lent are bytes.
 pub record Checked (s : List ℕ) (r : Verdict) : Type 0 where

@@ -1,5 +1,5 @@
 -- What the paper asks of a record's bytes, sentence by sentence (01, 'The record', 'Who caused the refusal').
---     Bytes s           every element of s is a byte         Framed s            two fields frame s exactly
+--     Framed s          two fields frame s exactly
 --     recordEntries s   the entries of both fields           Faulty before e     what is wrong with an entry
 --     Sound entries     no entry is faulty                   FirstFault es p     the first faulty entry, at offset p
 --     formRead s        the form of the powers read          FirstBreak f i      the first index that breaks the clause
@@ -11,12 +11,9 @@ use lib.ListN.{length, getD}
 use Rattle.group.specs.Forms.{Side, bSide, aSide, Form}
 use Rattle.group.specs.Limits.{limit}
 use Rattle.group.specs.Reducing.{Applies}
-use Rattle.records.specs.Format.{Power, power, field, bTag, aTag}
+use Rattle.fields.specs.Fields.{field}
+use Rattle.records.specs.Format.{Power, power, bTag, aTag}
 use Rattle.records.specs.Reading.{aStart, bPowers, aPowers, formOfPowers}
-
--- Every element is a byte; behind the end the default 0 stands.
-abbrev pub Bytes : List ℕ → Type 0
-Bytes s = (i : ℕ) → getD s i 0 < 256
 
 -- The bytes are the field of the b side, then the field of the a side, and end there; a body has whole entries.
 pub record Framed (s : List ℕ) : Type 0 where

@@ -1,16 +1,15 @@
 -- The record of a form (01, 'The record'). All numbers are unsigned, high byte first.
 --     Power            x_i^e by its index and exponent        powers i t     the powers of exponents e_i, e_(i+1), …
---     field tag body   a field: tag, length, body             recordOf b a   the record of two sides' exponents
---     encode f         the record of a form                   Within f       indices and exponents within the limit
---     IsRecord s f     the bytes s are a record, that of f
+--     recordOf b a     the record of two sides' exponents     encode f       the record of a form
+--     IsRecord s f     the bytes s are a record, that of f    Within f       indices and exponents within the limit
 -- Assumes nothing.
 use mathlib.Core.Path.{_≡_}
 use mathlib.Core.List.{List, [], _∷_, _++_}
-use Prim.Native.Nat.{ℕ, zero, suc, _+_, _*_, _/_, _%_, _<_, _≤_}
-use lib.ListN.{length}
+use Prim.Native.Nat.{ℕ, zero, suc, _+_, _*_, _<_, _≤_}
 use Rattle.group.specs.Forms.{Side, bSide, aSide, Form, exponent, exponents, Trimmed, exponentSum}
 use Rattle.group.specs.Limits.{limit}
 use Rattle.group.specs.Reducing.{Reduced}
+use Rattle.fields.specs.Fields.{twoBytes, field}
 
 -- A power of a generator: its index and its exponent.
 pub data Power : Type 0 where
@@ -25,18 +24,10 @@ abbrev pub powers : ℕ → List ℕ → List Power
 powers i [] = []
 powers i (e ∷ t) = putPower i e (powers (suc i) t)
 
--- A number in two bytes.
-abbrev pub twoBytes : ℕ → List ℕ
-twoBytes x = (x / 256) ∷ (x % 256) ∷ []
-
 -- The entries of powers, four bytes each: index, exponent.
 abbrev pub entries : List Power → List ℕ
 entries [] = []
 entries (power i e ∷ ps) = twoBytes i ++ (twoBytes e ++ entries ps)
-
--- A field: a one-byte tag, a two-byte length, then that many bytes.
-abbrev pub field : ℕ → List ℕ → List ℕ
-field tag body = tag ∷ (twoBytes (length body) ++ body)
 
 -- The tags of the b side and of the a side.
 abbrev pub bTag : ℕ

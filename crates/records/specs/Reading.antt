@@ -7,14 +7,12 @@ use mathlib.Core.List.{List, [], _∷_}
 use Prim.Native.Nat.{ℕ, zero, suc, _+_, _*_, _/_, _%_}
 use lib.ListN.{length, getD}
 use lib.Dec.{eqb, ltb}
-use Rattle.group.specs.Forms.{bSide, aSide, Form, empty, level, exponent}
+use Rattle.group.specs.Forms.{bSide, aSide, Form, exponent}
+use Rattle.group.specs.UpTo.{formUpTo}
 use Rattle.group.specs.Limits.{limit}
 use Rattle.refusals.specs.Outcomes.{Outcome, accepted, refused, then}
+use Rattle.fields.specs.Fields.{twoAt}
 use Rattle.records.specs.Format.{Power, power, bTag, aTag, baseSize}
-
--- The two-byte number at an offset.
-abbrev pub twoAt : List ℕ → ℕ → ℕ
-twoAt s at = 256 * getD s at 0 + getD s (at + 1) 0
 
 -- The lengths of the two bodies, and where the second begins.
 abbrev pub bLength : List ℕ → ℕ
@@ -68,18 +66,6 @@ scan at low sum (power i e ∷ ps) = cond (isFaulty low sum i e) (refused 4 at) 
 abbrev pub exponentAt : List Power → ℕ → ℕ
 exponentAt [] i = 0
 exponentAt (power j e ∷ ps) i = cond (eqb j i) e (exponentAt ps i)
-
--- A level put in front of a form, but no level (0, 0) at the end.
-abbrev pub putLevel : ℕ → ℕ → Form → Form
-putLevel zero zero empty = empty
-putLevel zero zero (level c d f) = level 0 0 (level c d f)
-putLevel zero (suc a) f = level 0 (suc a) f
-putLevel (suc b) a f = level (suc b) a f
-
--- The form with given exponents of the indices below m.
-unfoldable pub formUpTo : ℕ → (ℕ → ℕ) → (ℕ → ℕ) → Form
-formUpTo zero b a = empty
-formUpTo (suc m) b a = putLevel (b 0) (a 0) (formUpTo m (λ i. b (suc i)) (λ i. a (suc i)))
 
 -- The form of two sides' powers, none of whose indices is above the limit.
 abbrev pub formOfPowers : List Power → List Power → Form

@@ -1,6 +1,5 @@
--- The writer's terms, the steps of the reading, the field reader, and the contracts of the calls inside the library.
+-- The steps of the reading, the walk over the entries, and the contract of the reader of tables.
 -- Inside: no claim reaches these definitions; a reader of the claims need not believe them.
-pub mod Fields
 pub mod Steps
-pub mod FieldReading
+pub mod Walking
 pub mod Contracts

@@ -1,25 +1,17 @@
-// The reading of a record: its two fields, their entries, and the exponents by index.
+// The entries of a record's two fields, in order.
 ghost use mathlib.Core.Path.{_≡_};
-ghost use Prim.Native.Nat.{suc, _+_, _*_, _/_, _≤_, _<_};
+ghost use Prim.Native.Nat.{_+_, _*_, _/_, _≤_, _<_};
 ghost use lib.ListN.{length};
-ghost use Rattle.lists.specs.Tables.{filled};
 ghost use Rattle.group.specs.Limits.{limit};
 ghost use Rattle.refusals.specs.Outcomes.{verdictOf, dropValue};
-ghost use Rattle.records.specs.Reading.{twoAt, entriesAt, exponentAt};
-ghost use Rattle.records.specs.Reading.{isFaulty, scan as scanned, reducedForm};
-ghost use Rattle.records.specs.inside.Steps.{frameOf, scanOf, scanBoth, isBreak, Proper, Ordered, placePowers};
-ghost use Rattle.records.specs.inside.Steps.{BreakFound, FieldsFilled};
-use super::BASE_SIZE;
-use refusals::GeneratorIndex;
+ghost use Rattle.fields.specs.Fields.{twoAt};
+ghost use Rattle.records.specs.Reading.{entriesAt, isFaulty, scan as scanned};
+ghost use Rattle.records.specs.inside.Steps.{frameOf, scanOf, scanBoth};
+use crate::BASE_SIZE;
+use crate::frame::Frame;
 use refusals::LIMIT;
 use refusals::Refusal;
 use refusals::Verdict;
-
-// The lengths of the two bodies, or fields that do not frame the record.
-pub enum Frame {
-    Exact(usize, usize),
-    Broken,
-}
 
 // The sum of the exponents so far, or the offset of an entry that is wrong.
 pub enum Scan {
@@ -33,7 +25,7 @@ pub fn number_at(s: &[u8], at: usize) -> usize
     ensures { λ r. ⌜ r ≡ twoAt (now (s .entry)) at ⌝ }
     ensures { λ r. ⌜ r < 65536 ⌝ }
 {
-    256 * s[at] as usize + s[at + 1] as usize
+    fields::number(s[at], s[at + 1])
 }
 
 // Whether an entry breaks a rule; `low` is one above the index before it.
@@ -98,105 +90,4 @@ fn check_second(s: &[u8], start: usize, count: usize, sum: usize) -> Verdict
         Scan::Fault(at) => Verdict::Refused(Refusal::BadEntry(at)),
         Scan::Sum(_) => Verdict::Accepted,
     }
-}
-
-// The entries up to the limit become 0.
-fn clear(table: &mut [u16])
-    requires { ⌜ limit < length (now table) ⌝ }
-    ensures { λ _. ⌜ now (table .exit) ≡ filled (suc limit) (λ i. 0) (now (table .entry)) ⌝ }
-{
-    let mut i = 0;
-    while i <= LIMIT {
-        table[i] = 0;
-        i += 1;
-    }
-}
-
-// Each exponent at its index.
-fn place_powers(s: &[u8], start: usize, count: usize, table: &mut [u16])
-    requires { ⌜ start + 4 * count ≤ length (now s) ⌝ }
-    requires { ⌜ limit < length (now table) ⌝ }
-    requires { ⌜ Proper 0 (entriesAt (now s) start count) ⌝ }
-    ensures { λ _. ⌜ now (table .exit) ≡ placePowers (entriesAt (now (s .entry)) start count) (now (table .entry)) ⌝ }
-{
-    let mut at = start;
-    let mut left = count;
-    while 0 < left {
-        let index = number_at(s, at);
-        let exponent = number_at(s, at + 2);
-        table[index] = exponent as u16;
-        at += 4;
-        left -= 1;
-    }
-}
-
-// The exponents of a field by index.
-fn fill_table(s: &[u8], start: usize, count: usize, table: &mut [u16])
-    requires { ⌜ start + 4 * count ≤ length (now s) ⌝ }
-    requires { ⌜ limit < length (now table) ⌝ }
-    requires { ⌜ Proper 0 (entriesAt (now s) start count) ⌝ }
-    ensures { λ _. ⌜ now (table .exit) ≡ filled (suc limit) (exponentAt (entriesAt (now (s .entry)) start count))
-        (now (table .entry)) ⌝ }
-{
-    clear(table);
-    place_powers(s, start, count, table);
-}
-
-// Whether an index breaks the reduced form's clause, by its exponents and those of the next.
-fn breaks(b: u16, a: u16, next_b: u16, next_a: u16) -> bool
-    ensures { λ r. ⌜ r ≡ isBreak b a «next_b» «next_a» ⌝ }
-{
-    if b == 0 {
-        return false;
-    }
-    if a == 0 {
-        return false;
-    }
-    if next_b != 0 {
-        return false;
-    }
-    next_a == 0
-}
-
-// The smallest index that breaks the clause, if any.
-fn first_break(b: &[u16], a: &[u16]) -> Verdict
-    requires { ⌜ (suc limit < length (now b)) × (suc limit < length (now a)) ⌝ }
-    ensures { λ r. ⌜ BreakFound (now (b .entry)) (now (a .entry)) r ⌝ }
-{
-    let mut i = 0;
-    while i <= LIMIT {
-        if breaks(b[i], a[i], b[i + 1], a[i + 1]) {
-            return Verdict::Refused(Refusal::NotReduced(GeneratorIndex(i as u16)));
-        }
-        i += 1;
-    }
-    Verdict::Accepted
-}
-
-// Both tables of a record whose entries are right.
-pub fn fill_fields(
-    s: &[u8],
-    b_length: usize,
-    a_length: usize,
-    b_table: &mut [u16],
-    a_table: &mut [u16],
-)
-    requires { ⌜ Ordered (now s) «b_length» «a_length» ⌝ }
-    requires { ⌜ (limit < length (now «b_table»)) × (limit < length (now «a_table»)) ⌝ }
-    ensures { λ _. ⌜ FieldsFilled (now (s .entry)) (now («b_table» .entry)) (now («a_table» .entry))
-        (now («b_table» .exit)) (now («a_table» .exit)) ⌝ }
-{
-    fill_table(s, 3, b_length / 4, b_table);
-    fill_table(s, BASE_SIZE + b_length, a_length / 4, a_table);
-}
-
-// Whether the form of a record whose entries are right is reduced.
-pub fn check_reduced(s: &[u8], b_length: usize, a_length: usize) -> Verdict
-    requires { ⌜ Ordered (now s) «b_length» «a_length» ⌝ }
-    ensures { λ r. ⌜ verdictOf r ≡ dropValue (reducedForm (now (s .entry))) ⌝ }
-{
-    let mut b = [0u16; LIMIT + 2];
-    let mut a = [0u16; LIMIT + 2];
-    fill_fields(s, b_length, a_length, &mut b, &mut a);
-    first_break(&b, &a)
 }

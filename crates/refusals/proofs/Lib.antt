@@ -1,2 +1,3 @@
--- Laws of outcomes.
+-- Laws of outcomes, and of calls that write at the front of a buffer.
 pub mod Outcomes
+pub mod Placing

@@ -1,5 +1,6 @@
--- Refusals and outcomes.
+-- Refusals, outcomes, and calls that write at the front of a buffer.
 pub mod Refusals
 pub mod Outcomes
+pub mod Placing
 -- what no claim reaches
 pub mod inside

@@ -1,14 +1,14 @@
 -- What a call comes to, in the paper's numbers: a value, or the number and the place of a refusal (01, 'Who caused the
 -- refusal'). For each answer type a definition gives the outcome of each case, and contracts speak of outcomes.
 --     after o old new   what was lent, at exit      valued value o   the outcome with the call's number for its value
---     verdictOf, writtenOf   the outcomes of the answer types that several calls share
+--     verdictOf, replyOf   the outcomes of the two answer types: nothing or a refusal, a number or a refusal
 -- Assumes nothing.
 use Prim.Native.Nat.{ℕ}
 use Rattle.refusals.specs.declared.Refusal.{Refusal}
 use Rattle.refusals.specs.declared.Verdict.{Verdict}
 use Rattle.refusals.specs.declared.Verdict.the-variants.{Accepted, Refused}
-use Rattle.refusals.specs.declared.Written.{Written}
-use Rattle.refusals.specs.declared.Written.the-variants.{Bytes, Refused as NotWritten}
+use Rattle.refusals.specs.declared.Reply.{Reply}
+use Rattle.refusals.specs.declared.Reply.the-variants.{Number, Refused as NoNumber}
 use Rattle.refusals.specs.Refusals.{numberOf, placeOf}
 
 -- Accepted, with what was found, or refused, with the paper's number and place.
@@ -39,10 +39,10 @@ abbrev pub verdictOf : Verdict → Outcome ℕ
 verdictOf Accepted = accepted 0
 verdictOf (Refused r) = refusal r
 
--- The value is the number of bytes written.
-abbrev pub writtenOf : Written → Outcome ℕ
-writtenOf (Bytes n) = accepted n
-writtenOf (NotWritten r) = refusal r
+-- The value is the number: of bytes written, of letters, of carets.
+abbrev pub replyOf : Reply → Outcome ℕ
+replyOf (Number n) = accepted n
+replyOf (NoNumber r) = refusal r
 
 -- A further judgement of what was found; a refusal stands.
 abbrev pub then : {A B : Type 0} → Outcome A → (A → Outcome B) → Outcome B

@@ -42,9 +42,9 @@ pub enum Verdict {
     Refused(Refusal),
 }
 
-// The number of bytes written, or a refusal.
-pub enum Written {
-    Bytes(usize),
+// A number, as of bytes written, of letters or of carets, or a refusal: the answer of all other calls.
+pub enum Reply {
+    Number(usize),
     Refused(Refusal),
 }
 

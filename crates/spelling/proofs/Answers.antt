@@ -19,7 +19,7 @@ use Rattle.refusals.specs.declared.Refusal.{Refusal}
 use Rattle.refusals.specs.declared.Refusal.the-variants.{ShortBuffer, LongSpelling}
 use Rattle.refusals.specs.declared.Verdict.{Verdict}
 use Rattle.refusals.specs.declared.Verdict.the-variants.{Accepted, Refused}
-use Rattle.refusals.specs.declared.Written.the-variants as Written
+use Rattle.refusals.specs.declared.Reply.the-variants as Replies
 use Rattle.records.specs.Reading.{decode}
 use Rattle.records.specs.inside.Contracts.{Decoded}
 use Rattle.records.proofs.ClearedTables.{Cleared, cleared, Read, read-refused, read-accepted, within-behind, table-at}
@@ -39,7 +39,7 @@ own-cleared = cleared (suc limit) (omega arith)
 -- A refusal of the reader is passed on, and nothing was written.
 module _ {n : ℕ} {s z b a : List ℕ} {v : Verdict} {q : Refusal} (c : Cleared n z) (d : Decoded s z z b a v)
     (e : v ≡ Refused q) (r : Refusal) (is : r ≡ refusalIn v) where
-  pub word-refused : {word : List ℕ} → Spelled s word word (Written.Refused r)
+  pub word-refused : {word : List ℕ} → Spelled s word word (Replies.Refused r)
   word-refused =
       let refuses : decode s ≡ refusal r = read-refused c d e ∙ sym (ap refusal is) in
       record { are-bytes = d .are-bytes; result = rw refuses refl; bytes = rw refuses refl }
@@ -76,7 +76,7 @@ module _ {n : ℕ} {s z b a : List ℕ} {f : Form} (c : Cleared n z) (r : Read s
 module _ {n : ℕ} {s z b a word : List ℕ} {v : Verdict} (c : Cleared n z) (d : Decoded s z z b a v) (e : v ≡ Accepted)
     (k : ℕ) (counted : k ≡ tableLetters b a) where
   -- 8 where the word has more letters than the limit.
-  pub word-long : limit < k → Spelled s word word (Written.Refused LongSpelling)
+  pub word-long : limit < k → Spelled s word word (Replies.Refused LongSpelling)
   word-long h =
       let f = read-accepted c d e in
       let long : limit < length (spelling (f .0)) = omega (arith, table-letters c (f .1)) in
@@ -84,7 +84,7 @@ module _ {n : ℕ} {s z b a word : List ℕ} {v : Verdict} (c : Cleared n z) (d 
       record { are-bytes = d .are-bytes; result = rw refuses refl; bytes = rw refuses refl }
 
   -- 7 where it has not, and the buffer is too short.
-  pub word-short : k ≤ limit → length word < k → Spelled s word word (Written.Refused ShortBuffer)
+  pub word-short : k ≤ limit → length word < k → Spelled s word word (Replies.Refused ShortBuffer)
   word-short h g =
       let f = read-accepted c d e in
       let few : length (spelling (f .0)) ≤ limit = omega (arith, table-letters c (f .1)) in
@@ -95,7 +95,7 @@ module _ {n : ℕ} {s z b a word : List ℕ} {v : Verdict} (c : Cleared n z) (d 
 
   -- Else the word is written.
   pub word-answer : {word′ : List ℕ} {r : ℕ} → k ≤ limit → k ≤ length word
-      → Wrote (bytesOf (tableSpelling b a)) word 0 word′ r → Spelled s word word′ (Written.Bytes r)
+      → Wrote (bytesOf (tableSpelling b a)) word 0 word′ r → Spelled s word word′ (Replies.Number r)
   word-answer {word′} {r} h g w =
       let f = read-accepted c d e in
       let few : length (spelling (f .0)) ≤ limit = omega (arith, table-letters c (f .1)) in

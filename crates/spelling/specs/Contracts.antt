@@ -13,10 +13,10 @@ use lib.Seq.{sets}
 use Rattle.group.specs.Letters.{Word}
 use Rattle.group.specs.Bytes.{bytesOf}
 use Rattle.group.specs.Limits.{limit}
-use Rattle.refusals.specs.Outcomes.{Outcome, accepted, refused, after, then, valued, writtenOf}
-use Rattle.refusals.specs.declared.Written.{Written}
+use Rattle.refusals.specs.Outcomes.{Outcome, accepted, refused, after, then, valued, replyOf}
+use Rattle.refusals.specs.declared.Reply.{Reply}
 use Rattle.records.specs.Reading.{decode}
-use Rattle.records.specs.Faults.{Bytes}
+use Rattle.fields.specs.Fields.{Bytes}
 use Rattle.spelling.specs.Spelling.{spelling}
 
 -- A word beside a buffer of n bytes: 8 where it has more letters than the limit, then 7 where it has more than n.
@@ -29,7 +29,7 @@ spelledIn s n = then (decode s) (λ f. wordIn n (spelling f))
 
 -- The word stands at the front of the buffer, and everything beyond is unchanged; the value is its number of letters.
 -- What is lent as a record are bytes.
-pub record Spelled (s word word′ : List ℕ) (r : Written) : Type 0 where
+pub record Spelled (s word word′ : List ℕ) (r : Reply) : Type 0 where
   pub are-bytes : Bytes s
-  pub result : writtenOf r ≡ valued length (spelledIn s (length word))
+  pub result : replyOf r ≡ valued length (spelledIn s (length word))
   pub bytes : word′ ≡ after (spelledIn s (length word)) word (λ w. sets word 0 (bytesOf w))

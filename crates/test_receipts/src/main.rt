@@ -12,7 +12,7 @@ use receipts::LINE;
 use receipts::OUTPUT;
 use receipts::Served;
 use receipts::Serving;
-use refusals::Written;
+use refusals::Reply;
 
 mod sizes;
 
@@ -60,15 +60,15 @@ fn part_size(k: usize) -> usize {
 }
 
 // What a call put at the front of a buffer, behind the output so far.
-fn append(got: &mut [u8], at: usize, out: &[u8; OUTPUT], placed: Written) -> Amid {
+fn append(got: &mut [u8], at: usize, out: &[u8; OUTPUT], placed: Reply) -> Amid {
     match placed {
-        Written::Bytes(n) => Amid {
+        Reply::Number(n) => Amid {
             end: text::put(got, at, parts::front(out, n)),
             well: true,
             number: 1,
             held: 0,
         },
-        Written::Refused(_) => Amid {
+        Reply::Refused(_) => Amid {
             end: at,
             well: false,
             number: 1,

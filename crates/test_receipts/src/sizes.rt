@@ -8,7 +8,7 @@ use receipts::LINE;
 use receipts::OUTPUT;
 use receipts::Serving;
 use refusals::Refusal;
-use refusals::Written;
+use refusals::Reply;
 
 // What a byte of the buffer holds before a call.
 const BYTE: u8 = 0xEE;
@@ -21,10 +21,10 @@ fn put_refused(got: &mut [u8], r: Refusal, out: &[u8; OUTPUT]) -> usize {
 }
 
 // The bytes written, or a refusal.
-fn put_written(got: &mut [u8], w: Written, out: &[u8; OUTPUT]) -> usize {
+fn put_written(got: &mut [u8], w: Reply, out: &[u8; OUTPUT]) -> usize {
     match w {
-        Written::Bytes(n) => text::put_named(got, 0, b"ok ", n),
-        Written::Refused(r) => put_refused(got, r, out),
+        Reply::Number(n) => text::put_named(got, 0, b"ok ", n),
+        Reply::Refused(r) => put_refused(got, r, out),
     }
 }
 

@@ -5,9 +5,7 @@ use cases::fields;
 use cases::numbers;
 use cases::parts;
 use cases::text;
-use pairs::TreePair;
-use pairs::WordLength;
-use refusals::Written;
+use refusals::Reply;
 
 // The field of the arrow, by the call; 0 where there is no call.
 pub fn arrow(line: &[u8]) -> usize {
@@ -78,25 +76,25 @@ fn spell(line: &[u8], record: &[u8], out: &mut [u8]) -> usize {
 }
 
 // Whether the word is there, or a refusal and nothing new in the buffer.
-fn put_spelled(spelled: Written, line: &[u8], word: &[u8], out: &mut [u8]) -> usize {
+fn put_spelled(spelled: Reply, line: &[u8], word: &[u8], out: &mut [u8]) -> usize {
     match spelled {
-        Written::Bytes(n) => memory::put_word(out, line, word, n),
-        Written::Refused(r) => memory::put_no_word(out, line, word, r),
+        Reply::Number(n) => memory::put_word(out, line, word, n),
+        Reply::Refused(r) => memory::put_no_word(out, line, word, r),
     }
 }
 
 // The carets, or a refusal.
-fn put_pair(pair: TreePair, out: &mut [u8]) -> usize {
+fn put_pair(pair: Reply, out: &mut [u8]) -> usize {
     match pair {
-        TreePair::Carets(n) => text::put_named(out, 0, b"ok ", n),
-        TreePair::Refused(r) => text::put_refusal(out, r),
+        Reply::Number(n) => text::put_named(out, 0, b"ok ", n),
+        Reply::Refused(r) => text::put_refusal(out, r),
     }
 }
 
 // The letters, or a refusal.
-fn put_length(length: WordLength, out: &mut [u8]) -> usize {
+fn put_length(length: Reply, out: &mut [u8]) -> usize {
     match length {
-        WordLength::Letters(n) => text::put_named(out, 0, b"ok ", n),
-        WordLength::Refused(r) => text::put_refusal(out, r),
+        Reply::Number(n) => text::put_named(out, 0, b"ok ", n),
+        Reply::Refused(r) => text::put_refusal(out, r),
     }
 }

@@ -15,8 +15,7 @@ use cases::parts;
 use cases::report;
 use cases::text;
 use libc::STDIN_FILENO;
-use pairs::WordLength;
-use refusals::Written;
+use refusals::Reply;
 
 // The radius of the last sphere.
 const RADIUS: usize = 11;
@@ -95,8 +94,8 @@ fn counted(counts: &[u64; LETTERS], n: usize) -> usize {
 fn record_length(record: &[u8]) -> usize {
     let length = pairs::record_to_length(record);
     match length {
-        WordLength::Letters(n) => n,
-        WordLength::Refused(_) => NONE,
+        Reply::Number(n) => n,
+        Reply::Refused(_) => NONE,
     }
 }
 
@@ -107,8 +106,8 @@ fn length(word: &[u8]) -> usize {
     let mut record = [0u8; 6 + 4 * LETTERS];
     let written = words::word_to_record(word, &mut b, &mut a, &mut record);
     match written {
-        Written::Bytes(n) => record_length(parts::front(&record, n)),
-        Written::Refused(_) => NONE,
+        Reply::Number(n) => record_length(parts::front(&record, n)),
+        Reply::Refused(_) => NONE,
     }
 }
 

@@ -7,7 +7,7 @@ use cases::numbers;
 use cases::parts;
 use cases::text;
 use refusals::Refusal;
-use refusals::Written;
+use refusals::Reply;
 use words::Comparison;
 
 // The answer to `two W1 TB TA OUT W2 TB TA OUT`.
@@ -130,9 +130,9 @@ fn put_own(
 }
 
 // A record.
-fn put_record(written: Written, record: &[u8], out: &mut [u8], at: usize) -> usize {
+fn put_record(written: Reply, record: &[u8], out: &mut [u8], at: usize) -> usize {
     match written {
-        Written::Bytes(bytes) => text::put_bytes(out, at, parts::front(record, bytes)),
-        Written::Refused(_) => text::put(out, at, b" refused by its own call"),
+        Reply::Number(bytes) => text::put_bytes(out, at, parts::front(record, bytes)),
+        Reply::Refused(_) => text::put(out, at, b" refused by its own call"),
     }
 }

@@ -4,7 +4,7 @@ use crate::memory::Sizes;
 use crate::record_calls;
 use cases::parts;
 use cases::text;
-use refusals::Written;
+use refusals::Reply;
 
 // The answer to `w2r WORD TB TA OUT`, on memory that holds what it holds before every call.
 pub fn word_to_record(line: &[u8], word: &[u8], out: &mut [u8]) -> usize {
@@ -18,7 +18,7 @@ pub fn word_to_record(line: &[u8], word: &[u8], out: &mut [u8]) -> usize {
 }
 
 // The call, lent so much of each table and of the buffer.
-pub fn lend(word: &[u8], s: Sizes, b: &mut [u16], a: &mut [u16], record: &mut [u8]) -> Written {
+pub fn lend(word: &[u8], s: Sizes, b: &mut [u16], a: &mut [u16], record: &mut [u8]) -> Reply {
     words::word_to_record(
         word,
         parts::front_entries_mut(b, s.b),
@@ -29,7 +29,7 @@ pub fn lend(word: &[u8], s: Sizes, b: &mut [u16], a: &mut [u16], record: &mut [u
 
 // What is written, or a refusal, which changes nothing.
 fn put_written(
-    written: Written,
+    written: Reply,
     letters: usize,
     b: &[u16],
     a: &[u16],
@@ -37,8 +37,8 @@ fn put_written(
     out: &mut [u8],
 ) -> usize {
     match written {
-        Written::Bytes(bytes) => put_accepted(letters, bytes, b, a, record, out),
-        Written::Refused(r) => {
+        Reply::Number(bytes) => put_accepted(letters, bytes, b, a, record, out),
+        Reply::Refused(r) => {
             let end = text::put_refusal(out, r);
             memory::put_kept(out, end, b, a, record)
         }

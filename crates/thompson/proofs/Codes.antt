@@ -9,18 +9,13 @@ use Rattle.refusals.specs.declared.Refusal.the-variants.{TooManyLetters, NotLet
 use Rattle.refusals.specs.declared.Refusal.the-variants.{NotReduced, ShortTable, ShortBuffer, LongSpelling}
 use Rattle.refusals.specs.declared.Verdict.{Verdict}
 use Rattle.refusals.specs.declared.Verdict.the-variants as Verdicts
-use Rattle.refusals.specs.declared.Written.{Written}
-use Rattle.refusals.specs.declared.Written.the-variants as Writings
+use Rattle.refusals.specs.declared.Reply.{Reply}
+use Rattle.refusals.specs.declared.Reply.the-variants as Replies
 use Rattle.refusals.specs.Refusals.{numberOf, placeOf}
-use Rattle.refusals.specs.Outcomes.{refused, refusal, verdictOf, writtenOf}
+use Rattle.refusals.specs.Outcomes.{refused, refusal, verdictOf, replyOf}
 use Rattle.words.specs.declared.Comparison.{Comparison}
 use Rattle.words.specs.declared.Comparison.the-variants.{Same, Different, First, Second}
 use Rattle.words.specs.Comparing.{refusedWord, decisionOf}
-use Rattle.pairs.specs.declared.TreePair.{TreePair}
-use Rattle.pairs.specs.declared.TreePair.the-variants as Pair
-use Rattle.pairs.specs.declared.WordLength.{WordLength}
-use Rattle.pairs.specs.declared.WordLength.the-variants as Length
-use Rattle.pairs.specs.Contracts.{treePairOf, wordLengthOf}
 use Rattle.thompson.specs.Codes.{answer, codeOf, codeOfDecision}
 use Rattle.thompson.specs.Codes.{readOutcome, outcomeOf, readDecision, decisionIn}
 
@@ -62,17 +57,9 @@ pub verdict-read : (v : Verdict) → outcomeOf (codeOf (verdictOf v)) ≡ verdic
 verdict-read Verdicts.Accepted = refl
 verdict-read (Verdicts.Refused r) = refusal-read r
 
-pub written-read : (w : Written) → outcomeOf (codeOf (writtenOf w)) ≡ writtenOf w
-written-read (Writings.Bytes n) = refl
-written-read (Writings.Refused r) = refusal-read r
-
-pub tree-pair-read : (p : TreePair) → outcomeOf (codeOf (treePairOf p)) ≡ treePairOf p
-tree-pair-read (Pair.Carets n) = refl
-tree-pair-read (Pair.Refused r) = refusal-read r
-
-pub length-read : (l : WordLength) → outcomeOf (codeOf (wordLengthOf l)) ≡ wordLengthOf l
-length-read (Length.Letters n) = refl
-length-read (Length.Refused r) = refusal-read r
+pub reply-read : (w : Reply) → outcomeOf (codeOf (replyOf w)) ≡ replyOf w
+reply-read (Replies.Number n) = refl
+reply-read (Replies.Refused r) = refusal-read r
 
 pub comparison-read : (c : Comparison) → decisionIn (codeOfDecision (decisionOf c)) ≡ decisionOf c
 comparison-read Same = refl

@@ -1,18 +1,16 @@
 // The calls for C and Rust. Each passes on to the proved call and answers two numbers: the refusal's number and place,
 // or 0 and the call's value. In the two-word call 256 is added to the number where the second word is refused.
 ghost use mathlib.Core.Path.{_≡_};
-ghost use Rattle.refusals.specs.Outcomes.{verdictOf, writtenOf};
+ghost use Rattle.refusals.specs.Outcomes.{verdictOf, replyOf};
 ghost use Rattle.records.specs.Checking.{Checked};
 ghost use Rattle.words.specs.Recording.{memory, Recorded};
 ghost use Rattle.words.specs.Comparing.{decisionOf, Compared};
-ghost use Rattle.pairs.specs.Contracts.{treePairOf, wordLengthOf, Paired, Measured};
+ghost use Rattle.pairs.specs.Contracts.{Paired, Measured};
 ghost use Rattle.spelling.specs.Contracts.{Spelled};
 ghost use Rattle.thompson.specs.Codes.{codeOf, codeOfDecision, Passed};
-use pairs::TreePair;
-use pairs::WordLength;
 use refusals::Refusal;
+use refusals::Reply;
 use refusals::Verdict;
-use refusals::Written;
 use words::Comparison;
 
 // A refusal's number and place, or 0 and the call's value.
@@ -32,7 +30,7 @@ fn refused(r: Refusal) -> Answer
     }
 }
 
-// Those of each answer type.
+// Those of a verdict.
 fn from_verdict(v: Verdict) -> Answer
     ensures { λ s. ⌜ s ≡ codeOf (verdictOf v) ⌝ }
 {
@@ -45,42 +43,16 @@ fn from_verdict(v: Verdict) -> Answer
     }
 }
 
-// The value is the number of bytes.
-fn from_written(w: Written) -> Answer
-    ensures { λ s. ⌜ s ≡ codeOf (writtenOf w) ⌝ }
+// The value is the number.
+fn from_reply(w: Reply) -> Answer
+    ensures { λ s. ⌜ s ≡ codeOf (replyOf w) ⌝ }
 {
     match w {
-        Written::Bytes(n) => Answer {
+        Reply::Number(n) => Answer {
             refusal: 0,
             value: n as u64,
         },
-        Written::Refused(r) => refused(r),
-    }
-}
-
-// The value is the number of carets.
-fn from_tree_pair(p: TreePair) -> Answer
-    ensures { λ s. ⌜ s ≡ codeOf (treePairOf p) ⌝ }
-{
-    match p {
-        TreePair::Carets(n) => Answer {
-            refusal: 0,
-            value: n as u64,
-        },
-        TreePair::Refused(r) => refused(r),
-    }
-}
-
-// The value is the length.
-fn from_length(l: WordLength) -> Answer
-    ensures { λ s. ⌜ s ≡ codeOf (wordLengthOf l) ⌝ }
-{
-    match l {
-        WordLength::Letters(n) => Answer {
-            refusal: 0,
-            value: n as u64,
-        },
-        WordLength::Refused(r) => refused(r),
+        Reply::Refused(r) => refused(r),
     }
 }
 
@@ -120,11 +92,11 @@ pub extern "C" fn thompson_word_to_record(
     a_table: &mut [u16],
     record: &mut [u8],
 ) -> Answer
-    ensures { λ r. ⌜ Passed (λ a. codeOf (writtenOf a)) (Recorded (now (word .entry))
+    ensures { λ r. ⌜ Passed (λ a. codeOf (replyOf a)) (Recorded (now (word .entry))
         (memory (now («b_table» .entry)) (now («a_table» .entry)) (now («record» .entry)))
         (memory (now («b_table» .exit)) (now («a_table» .exit)) (now («record» .exit)))) r ⌝ }
 {
-    from_written(words::word_to_record(word, b_table, a_table, record))
+    from_reply(words::word_to_record(word, b_table, a_table, record))
 }
 
 // Record check; the value is 0.
@@ -138,10 +110,10 @@ pub extern "C" fn thompson_check_record(record: &[u8]) -> Answer
 // Record to word; the value is the number of letters.
 #[no_mangle]
 pub extern "C" fn thompson_record_to_word(record: &[u8], word: &mut [u8]) -> Answer
-    ensures { λ r. ⌜ Passed (λ a. codeOf (writtenOf a))
+    ensures { λ r. ⌜ Passed (λ a. codeOf (replyOf a))
         (Spelled (now («record» .entry)) (now (word .entry)) (now (word .exit))) r ⌝ }
 {
-    from_written(spelling::record_to_word(record, word))
+    from_reply(spelling::record_to_word(record, word))
 }
 
 // Record to tree pair; the value is the number of carets of each tree.
@@ -151,19 +123,19 @@ pub extern "C" fn thompson_record_to_tree_pair(
     t_minus: &mut [u8],
     t_plus: &mut [u8],
 ) -> Answer
-    ensures { λ r. ⌜ Passed (λ a. codeOf (treePairOf a))
+    ensures { λ r. ⌜ Passed (λ a. codeOf (replyOf a))
         (Paired (now («record» .entry)) (now («t_minus» .entry)) (now («t_plus» .entry))
         (now («t_minus» .exit)) (now («t_plus» .exit))) r ⌝ }
 {
-    from_tree_pair(pairs::record_to_tree_pair(record, t_minus, t_plus))
+    from_reply(pairs::record_to_tree_pair(record, t_minus, t_plus))
 }
 
 // Record to length; the value is the length.
 #[no_mangle]
 pub extern "C" fn thompson_record_to_length(record: &[u8]) -> Answer
-    ensures { λ r. ⌜ Passed (λ a. codeOf (wordLengthOf a)) (Measured (now («record» .entry))) r ⌝ }
+    ensures { λ r. ⌜ Passed (λ a. codeOf (replyOf a)) (Measured (now («record» .entry))) r ⌝ }
 {
-    from_length(pairs::record_to_length(record))
+    from_reply(pairs::record_to_length(record))
 }
 
 // Two words; the value is 1 where they are the same element, and 0 where they are not.

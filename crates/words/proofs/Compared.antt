@@ -16,7 +16,7 @@ use Rattle.group.proofs.Sizes.{form-sum}
 use Rattle.refusals.specs.declared.Verdict.{Verdict}
 use Rattle.refusals.specs.declared.Verdict.the-variants.{Accepted, Refused}
 use Rattle.refusals.specs.declared.Refusal.{Refusal}
-use Rattle.refusals.specs.declared.Written.the-variants.{Refused as NotWritten}
+use Rattle.refusals.specs.declared.Reply.the-variants.{Refused as NotWritten}
 use Rattle.refusals.specs.Refusals.{numberOf, placeOf}
 use Rattle.refusals.specs.Outcomes.{Outcome, accepted, refused, dropValue, verdictOf}
 use Rattle.refusals.proofs.Outcomes.{accepted-same, drop-accepted, drop-refused}
@@ -26,7 +26,9 @@ use Rattle.forest.specs.inside.Filling.{cells, room}
 use Rattle.words.specs.Recording.{encodeWord, countRecord, bufferAfter, Memory, judgedWith, Left}
 use Rattle.words.specs.Recording.{Recorded}
 use Rattle.words.specs.inside.Writing.{Accepts, Ready, WordWritten}
-use Rattle.words.specs.Comparing.{decided, decisionOf, sameBytes, verdictBy, beside}
+use Rattle.lists.specs.SameBytes.{sameBytes}
+use Rattle.lists.proofs.SameBytes.{same-bytes, bytes-same}
+use Rattle.words.specs.Comparing.{decided, decisionOf, verdictBy, beside}
 use Rattle.words.specs.Comparing.{Compared}
 use Rattle.words.specs.inside.Writing.{TwoWritten}
 use Rattle.words.specs.declared.Comparison.{Comparison}
@@ -102,24 +104,6 @@ front-record word m m′ n f w =
           ∙ sets-eq (encodeWord v) (m .buffer) 0 fits)
           ∙ take-at (encodeWord v) _ n (sym count),
     )
-
--- `sameBytes` says whether two lists are the same.
-pub same-bytes : (s t : List ℕ) → sameBytes s t ≡ true → s ≡ t
-unfolding sameBytes
-same-bytes [] [] h = refl
-same-bytes [] (y ∷ t) h = let z : _≡_ {A = ℕ} 0 1 = cc in absurd (omega arith)
-same-bytes (x ∷ s) [] h = let z : _≡_ {A = ℕ} 0 1 = cc in absurd (omega arith)
-same-bytes (x ∷ s) (y ∷ t) h = go (eqb x y) refl h (same-bytes s t)
-  where
-    go : (p : Bool) → eqb x y ≡ p → cond p (sameBytes s t) false ≡ true → (sameBytes s t ≡ true → s ≡ t)
-        → x ∷ s ≡ y ∷ t
-    go true e k later = ap₂ (λ (u : ℕ) (l : List ℕ). u ∷ l) (eqb-true x y e) (later k)
-    go false e k later = let z : _≡_ {A = ℕ} 0 1 = cc in absurd (omega arith)
-
-pub bytes-same : (s : List ℕ) → sameBytes s s ≡ true
-unfolding sameBytes
-bytes-same [] = refl
-bytes-same (x ∷ s) = ap (λ (p : Bool). cond p (sameBytes s s) false) (eq-eqb x x refl) ∙ bytes-same s
 
 -- Both words are accepted and written.
 module _ (word1 : List ℕ) (m1 m1′ : Memory) (word2 : List ℕ) (m2 m2′ : Memory) (f1 : Accepts word1 m1)

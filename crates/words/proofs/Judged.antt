@@ -14,8 +14,8 @@ use Rattle.refusals.specs.declared.Refusal.{Refusal}
 use Rattle.refusals.specs.Outcomes.{Outcome, accepted, refused, then, dropValue, refusal, verdictOf}
 use Rattle.refusals.proofs.Outcomes.{accepted-refused, passed, drop-accepted, drop-refused}
 use Rattle.records.specs.Format.{bufferSize}
-use Rattle.forest.specs.Judging.{judged}
-use Rattle.forest.proofs.Judged.{Fit, accepted-fit}
+use Rattle.letters.specs.Judging.{judged}
+use Rattle.letters.proofs.Judged.{Fit, accepted-fit}
 use Rattle.words.specs.Recording.{judgedRecord}
 
 -- What an accepted word tells of the buffer too.

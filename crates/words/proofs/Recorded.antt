@@ -17,9 +17,9 @@ use Rattle.group.proofs.Sizes.{form-sum}
 use Rattle.refusals.specs.Outcomes.{Outcome, accepted, after, valued, dropValue}
 use Rattle.refusals.proofs.Outcomes.{accepted-same, accepted-refused}
 use Rattle.records.specs.Format.{recordOf}
-use Rattle.records.specs.inside.Contracts.{encodingOf, encodeTables, Encoded}
-use Rattle.records.specs.declared.Encoding.{Encoding}
-use Rattle.records.specs.declared.Encoding.the-variants.{Bytes, Refused, Unfit}
+use Rattle.encoding.specs.inside.Contracts.{encodingOf, encodeTables, Encoded}
+use Rattle.encoding.specs.declared.Encoding.{Encoding}
+use Rattle.encoding.specs.declared.Encoding.the-variants.{Bytes, Refused, Unfit}
 use Rattle.records.proofs.FormTables.{record-values}
 use Rattle.records.proofs.Lengths.{encode-size}
 use Rattle.forest.specs.Filling.{tableAfter}

@@ -3,10 +3,10 @@
 --     Decision   the verdict, or the word (0 or 1) with number and place      Compared   the contract of `same_element`
 -- Assumes nothing.
 use mathlib.Core.Path.{_≡_}
-use mathlib.Core.Bool.{Bool, true, false, cond}
-use mathlib.Core.List.{List, [], _∷_}
+use mathlib.Core.Bool.{Bool, cond}
+use mathlib.Core.List.{List}
 use Prim.Native.Nat.{ℕ}
-use lib.Dec.{eqb}
+use Rattle.lists.specs.SameBytes.{sameBytes}
 use Rattle.group.specs.Letters.{Word}
 use Rattle.refusals.specs.Refusals.{numberOf, placeOf}
 use Rattle.refusals.specs.Outcomes.{Outcome, accepted, refused}
@@ -25,13 +25,6 @@ decisionOf Same = same
 decisionOf Different = different
 decisionOf (First r) = refusedWord 0 (numberOf r) (placeOf r)
 decisionOf (Second r) = refusedWord 1 (numberOf r) (placeOf r)
-
--- As many bytes, and the same byte at each place.
-unfoldable pub sameBytes : List ℕ → List ℕ → Bool
-sameBytes [] [] = true
-sameBytes [] (y ∷ t) = false
-sameBytes (x ∷ s) [] = false
-sameBytes (x ∷ s) (y ∷ t) = cond (eqb x y) (sameBytes s t) false
 
 -- The verdict of two accepted words.
 abbrev pub verdictBy : Bool → Decision

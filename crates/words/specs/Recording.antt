@@ -13,10 +13,10 @@ use lib.Seq.{sets}
 use Rattle.group.specs.Letters.{Word}
 use Rattle.group.specs.Forms.{bSide, aSide}
 use Rattle.group.specs.Products.{formOf}
-use Rattle.refusals.specs.Outcomes.{Outcome, accepted, refused, after, then, valued, writtenOf}
-use Rattle.refusals.specs.declared.Written.{Written}
+use Rattle.refusals.specs.Outcomes.{Outcome, accepted, refused, after, then, valued, replyOf}
+use Rattle.refusals.specs.declared.Reply.{Reply}
 use Rattle.records.specs.Format.{encode, bufferSize}
-use Rattle.forest.specs.Judging.{judged}
+use Rattle.letters.specs.Judging.{judged}
 use Rattle.forest.specs.Filling.{tableAfter}
 
 -- The record of a word.
@@ -57,6 +57,6 @@ pub record Left (o : Outcome Word) (entry exit : Memory) : Type 0 where
   pub bytes : exit .buffer ≡ bufferAfter o (entry .buffer)
 
 -- For every word and whatever is lent with it.
-pub record Recorded (word : List ℕ) (entry exit : Memory) (r : Written) : Type 0 where
-  pub result : writtenOf r ≡ countRecord (judgedWith word entry)
+pub record Recorded (word : List ℕ) (entry exit : Memory) (r : Reply) : Type 0 where
+  pub result : replyOf r ≡ countRecord (judgedWith word entry)
   pub leaves : Left (judgedWith word entry) entry exit

@@ -4,8 +4,8 @@ ghost use Rattle.refusals.specs.Outcomes.{verdictOf, dropValue};
 ghost use Rattle.words.specs.Recording.{judgedRecord, memory, Recorded};
 ghost use Rattle.words.specs.Comparing.{decisionOf, verdictBy, Compared};
 use refusals::Refusal;
+use refusals::Reply;
 use refusals::Verdict;
-use refusals::Written;
 
 mod writing;
 
@@ -22,7 +22,7 @@ pub fn judge(word: &[u8], b_length: usize, a_length: usize, record_length: usize
     ensures { λ r. ⌜ verdictOf r ≡ dropValue (judgedRecord (now (word .entry)) «b_length» «a_length»
         «record_length») ⌝ }
 {
-    let verdict = forest::judge(word, b_length, a_length);
+    let verdict = letters::judge(word, b_length, a_length);
     let Verdict::Accepted = verdict else {
         return verdict;
     };
@@ -38,19 +38,19 @@ pub fn word_to_record(
     b_table: &mut [u16],
     a_table: &mut [u16],
     record: &mut [u8],
-) -> Written
+) -> Reply
     ensures { λ r. ⌜ Recorded (now (word .entry))
         (memory (now («b_table» .entry)) (now («a_table» .entry)) (now («record» .entry)))
         (memory (now («b_table» .exit)) (now («a_table» .exit)) (now («record» .exit))) r ⌝ }
 {
     let verdict = judge(word, b_table.len(), a_table.len(), record.len());
     if let Verdict::Refused(r) = verdict {
-        return Written::Refused(r);
+        return Reply::Refused(r);
     }
     let mut lefts = [0u16; forest::CELLS];
     let mut rights = [0u16; forest::CELLS];
     let mut stack = [0u16; forest::ROOM];
-    Written::Bytes(writing::write_word(
+    Reply::Number(writing::write_word(
         word,
         b_table,
         a_table,

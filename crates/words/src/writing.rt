@@ -5,8 +5,8 @@ ghost use lib.ListN.{length, take};
 ghost use Rattle.words.specs.Recording.{memory};
 ghost use Rattle.words.specs.inside.Writing.{bytesWritten, countLevels, Accepts, Ready, WordWritten};
 ghost use Rattle.words.specs.inside.Writing.{SaysSame, TwoWritten};
+use encoding::Encoding;
 use forest::Filling;
-use records::Encoding;
 
 // The number of bytes of a record that was written.
 fn bytes_written(encoding: Encoding) -> usize
@@ -48,7 +48,7 @@ pub fn write_word(
 {
     let filling = forest::fill_tables(word, b_table, a_table, lefts, rights, stack);
     let n = levels_read(filling);
-    let encoding = records::write_record(&b_table[..n], &a_table[..n], record);
+    let encoding = encoding::write_record(&b_table[..n], &a_table[..n], record);
     bytes_written(encoding)
 }
 

@@ -13,7 +13,7 @@ use Rattle.group.specs.Limits.{limit}
 use Rattle.refusals.specs.Outcomes.{Outcome, accepted, refused, dropValue, refusal}
 use Rattle.forest.specs.declared.Filling.{Filling}
 use Rattle.forest.specs.declared.Filling.the-variants.{Filled, Refused, Unfit}
-use Rattle.forest.specs.Judging.{judged}
+use Rattle.letters.specs.Judging.{judged}
 use Rattle.forest.specs.Filling.{tableAfter}
 
 -- Codes up to the limit are tips; each letter takes one cell more at most.

@@ -5,17 +5,15 @@ use Rattle.trees.specs.declared.Pairing.{Pairing}
 use Rattle.trees.specs.declared.Pairing.the-variants as Paired-by
 use Rattle.lengths.specs.declared.Length.{Length}
 use Rattle.lengths.specs.declared.Length.the-variants as Summed
-use Rattle.pairs.specs.declared.TreePair.{TreePair}
-use Rattle.pairs.specs.declared.TreePair.the-variants as Pair
-use Rattle.pairs.specs.declared.WordLength.{WordLength}
-use Rattle.pairs.specs.declared.WordLength.the-variants as Word
+use Rattle.refusals.specs.declared.Reply.{Reply}
+use Rattle.refusals.specs.declared.Reply.the-variants as Replies
 
 -- The answers passed on; what is not met stands for itself.
-abbrev pub pairingIn : Pairing → TreePair
-pairingIn (Paired-by.Carets n) = Pair.Carets n
-pairingIn (Paired-by.Refused r) = Pair.Refused r
-pairingIn Paired-by.Unfit = Pair.Refused BadFrame
+abbrev pub pairingIn : Pairing → Reply
+pairingIn (Paired-by.Carets n) = Replies.Number n
+pairingIn (Paired-by.Refused r) = Replies.Refused r
+pairingIn Paired-by.Unfit = Replies.Refused BadFrame
 
-abbrev pub lengthIn : Length → WordLength
-lengthIn (Summed.Letters n) = Word.Letters n
-lengthIn Summed.Unfit = Word.Refused BadFrame
+abbrev pub lengthIn : Length → Reply
+lengthIn (Summed.Letters n) = Replies.Number n
+lengthIn Summed.Unfit = Replies.Refused BadFrame

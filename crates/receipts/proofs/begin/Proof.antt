@@ -4,7 +4,7 @@ use native.Mathlib.Omega.{arith}
 use borrow.Author.Needs.{needs}
 use lib.ListN.{length}
 use Rattle.receipts.specs.Receipts.{header}
-use Rattle.receipts.proofs.Placing.{place-short, place-long}
+use Rattle.refusals.proofs.Placing.{place-short, place-long}
 use Rattle.receipts.proofs.begin.Statement.{statement}
 use Rattle.receipts.proofs.begin.Tie as tie
 

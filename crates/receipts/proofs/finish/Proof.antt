@@ -4,7 +4,8 @@ use native.Mathlib.Omega.{arith}
 use borrow.Author.Needs.{needs}
 use lib.ListN.{length-take}
 use Rattle.receipts.specs.Serving.{lineSize, receiptSize}
-use Rattle.receipts.proofs.Placing.{place-short, place-long, last-none, last-some}
+use Rattle.refusals.proofs.Placing.{place-short, place-long}
+use Rattle.receipts.proofs.Placing.{last-none, last-some}
 use Rattle.receipts.proofs.finish.Statement.{statement}
 use Rattle.receipts.proofs.finish.Tie as tie
 

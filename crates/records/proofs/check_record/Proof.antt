@@ -1,9 +1,9 @@
 -- `check_record` meets its contract: the frame, then the entries, then the clause. Assumes nothing.
 use mathlib.Core.Path.{sym, ap, _∙_}
 use native.Mathlib.Omega.{arith}
-use Rattle.refusals.specs.Outcomes.{verdictOf}
+use Rattle.refusals.specs.Outcomes.{dropValue, verdictOf}
 use Rattle.records.proofs.Fields.{fields-ordered}
-use Rattle.records.proofs.Checks.{check-broken, check-stops, check-goes-on}
+use Rattle.records.proofs.Checks.{decode-broken, decode-stops, decode-goes-on}
 use borrow.Author.Needs.{needs}
 use Rattle.records.proofs.check_record.Statement.{statement}
 use Rattle.records.proofs.check_record.Tie as tie
@@ -24,8 +24,8 @@ returns c =
     record {
       are-bytes = λ i. omega (arith, at-bytes .shared-slice-known .given i);
       result =
-          check-broken (at-bytes .before .args .«record» .now)
-          (sym (at-frame .read-frame .ensures) ∙ c .enum-told .given .1);
+          sym (ap dropValue (decode-broken (at-bytes .before .args .«record» .now)
+          (sym (at-frame .read-frame .ensures) ∙ c .enum-told .given .1)));
     }
 
 check-entries-requires : tie.Need-check-entries-requires
@@ -43,16 +43,16 @@ returns-2 c =
     record {
       are-bytes = λ i. omega (arith, at-bytes .shared-slice-known .given i);
       result =
-          check-stops (at-bytes .before .args .«record» .now)
+          sym (ap dropValue (decode-stops (at-bytes .before .args .«record» .now)
           (sym (at-frame .read-frame .ensures) ∙ at-fields .fields .given .1) _ _
-          (sym (ap verdictOf (c .before .entries .given .1)) ∙ at-entries .check-entries .ensures);
+          (sym (ap verdictOf (c .before .entries .given .1)) ∙ at-entries .check-entries .ensures)));
     }
 
 enum-told-2 : tie.Need-enum-told-2
 enum-told-2 c = search needs
 
-check-reduced-requires : tie.Need-check-reduced-requires
-check-reduced-requires c κs =
+check-requires : tie.Need-check-requires
+check-requires c κs =
     let at-entries = c .before .before in
     let at-fields = at-entries .before .before in
     let at-frame = at-fields .before .before in
@@ -69,10 +69,10 @@ returns-3 c =
     record {
       are-bytes = λ i. omega (arith, at-bytes .shared-slice-known .given i);
       result =
-          c .check-reduced .ensures
-          ∙ check-goes-on (at-bytes .before .args .«record» .now)
+          c .check .ensures
+          ∙ sym (ap dropValue (decode-goes-on (at-bytes .before .args .«record» .now)
           (sym (at-frame .read-frame .ensures) ∙ at-fields .fields .given .1)
-          (sym (ap verdictOf (c .before .enum-told2 .given .1)) ∙ at-entries .check-entries .ensures);
+          (sym (ap verdictOf (c .before .enum-told2 .given .1)) ∙ at-entries .check-entries .ensures)));
     }
 
 pub check-record-spec : {M : Type 1} → statement M
@@ -87,5 +87,5 @@ check-record-spec =
     enum-known-entries
     returns-2
     enum-told-2
-    check-reduced-requires
+    check-requires
     returns-3)

@@ -10,8 +10,9 @@ use Rattle.lists.specs.Tables.{filled}
 use Rattle.group.specs.Limits.{limit}
 use Rattle.refusals.specs.Outcomes.{Outcome, accepted, refused, then, verdictOf, dropValue}
 use Rattle.refusals.specs.declared.Verdict.{Verdict}
-use Rattle.records.specs.declared.reading.Frame.{Frame}
-use Rattle.records.specs.declared.reading.Frame.the-variants.{Exact, Broken}
+use Rattle.refusals.specs.declared.Verdict.the-variants.{Accepted}
+use Rattle.records.specs.declared.frame.Frame.{Frame}
+use Rattle.records.specs.declared.frame.Frame.the-variants.{Exact, Broken}
 use Rattle.records.specs.declared.reading.Scan.{Scan}
 use Rattle.records.specs.declared.reading.Scan.the-variants.{Sum, Fault}
 use Rattle.records.specs.Format.{Power, power}
@@ -58,6 +59,10 @@ Shown f b a = (i : ℕ) → i ≤ suc limit → (getD b i 0 ≡ exponent bSide f
 -- The clause was tested for each form that the tables show.
 abbrev pub BreakFound : List ℕ → List ℕ → Verdict → Type 0
 BreakFound b a r = (f : Form) → Shown f b a → verdictOf r ≡ dropValue (findBreak f 0 (suc limit))
+
+-- No index up to the limit breaks the clause, of any form that the tables show.
+abbrev pub NoBreak : List ℕ → List ℕ → Type 0
+NoBreak b a = BreakFound b a Accepted
 
 -- Both tables hold the exponents of the fields by index, up to the limit; everything beyond is unchanged.
 pub record FieldsFilled (s b a b′ a′ : List ℕ) : Type 0 where

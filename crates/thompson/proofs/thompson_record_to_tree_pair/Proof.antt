@@ -6,8 +6,8 @@ use Rattle.thompson.proofs.thompson_record_to_tree_pair.Tie as tie
 record-to-tree-pair-requires : tie.Need-record-to-tree-pair-requires
 record-to-tree-pair-requires c κs = search needs
 
-from-tree-pair-requires : tie.Need-from-tree-pair-requires
-from-tree-pair-requires c κs = search needs
+from-reply-requires : tie.Need-from-reply-requires
+from-reply-requires c κs = search needs
 
 same-length : tie.Need-same-length
 same-length c = search needs
@@ -20,7 +20,7 @@ returns c =
     let at-call = c .before .before .before .before .before in
     record {
       passed = at-call .record-to-tree-pair .result;
-      numbers = c .from-tree-pair .ensures;
+      numbers = c .from-reply .ensures;
       meets = at-call .record-to-tree-pair .ensures;
     }
 
@@ -29,7 +29,7 @@ thompson-record-to-tree-pair-spec =
     tie.close
     (tie.spec
     record-to-tree-pair-requires
-    from-tree-pair-requires
+    from-reply-requires
     same-length
     same-length-2
     returns)

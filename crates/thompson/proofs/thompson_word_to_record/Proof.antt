@@ -6,8 +6,8 @@ use Rattle.thompson.proofs.thompson_word_to_record.Tie as tie
 word-to-record-requires : tie.Need-word-to-record-requires
 word-to-record-requires c κs = search needs
 
-from-written-requires : tie.Need-from-written-requires
-from-written-requires c κs = search needs
+from-reply-requires : tie.Need-from-reply-requires
+from-reply-requires c κs = search needs
 
 same-length : tie.Need-same-length
 same-length c = search needs
@@ -24,7 +24,7 @@ returns c =
     let at-call = at-back .before .before .before .before in
     record {
       passed = at-call .word-to-record .result;
-      numbers = c .from-written .ensures;
+      numbers = c .from-reply .ensures;
       meets = at-call .word-to-record .ensures;
     }
 
@@ -33,7 +33,7 @@ thompson-word-to-record-spec =
     tie.close
     (tie.spec
     word-to-record-requires
-    from-written-requires
+    from-reply-requires
     same-length
     same-length-2
     same-length-3

@@ -7,8 +7,8 @@ use Prim.Native.Nat.{ℕ}
 use lib.ListN.{length, take}
 use Rattle.group.specs.Letters.{Word}
 use Rattle.refusals.specs.Outcomes.{accepted}
-use Rattle.records.specs.declared.Encoding.{Encoding}
-use Rattle.records.specs.declared.Encoding.the-variants.{Bytes, Refused, Unfit}
+use Rattle.encoding.specs.declared.Encoding.{Encoding}
+use Rattle.encoding.specs.declared.Encoding.the-variants.{Bytes, Refused, Unfit}
 use Rattle.forest.specs.declared.Filling.{Filling}
 use Rattle.forest.specs.declared.Filling.the-variants.{Filled, Refused as NotFilled, Unfit as NoScratch}
 use Rattle.forest.specs.inside.Filling.{cells, room}

@@ -1,48 +1,34 @@
 -- `number_at` meets its contract: two bytes make a number below 65,536. Assumes nothing.
-use mathlib.Core.Path.{refl}
-use Prim.Native.Nat.{_+_}
 use native.Mathlib.Omega.{arith}
+use Prim.Native.Nat.{_+_}
 use borrow.Author.Needs.{needs}
 use Rattle.records.proofs.reading.number_at.Statement.{statement}
 use Rattle.records.proofs.reading.number_at.Tie as tie
 
-shared-slice-read-result : tie.Need-shared-slice-read-result
-shared-slice-read-result c = search needs
+shared-slice-read-number : tie.Need-shared-slice-read-number
+shared-slice-read-number c = search needs
 
-cast-result : tie.Need-cast-result
-cast-result c = omega (arith, c .shared-slice-known .given (c .before .args .at))
+add-number : tie.Need-add-number
+add-number c = search needs
 
-mul-result : tie.Need-mul-result
-mul-result c = omega (arith, c .shared-slice-known .given (c .before .args .at))
+shared-slice-read-number-2 : tie.Need-shared-slice-read-number-2
+shared-slice-read-number-2 c = search needs
 
-add-result : tie.Need-add-result
-add-result c = search needs
-
-shared-slice-read-result-2 : tie.Need-shared-slice-read-result-2
-shared-slice-read-result-2 c = search needs
-
-cast-result-2 : tie.Need-cast-result-2
-cast-result-2 c = omega (arith, c .shared-slice-known2 .given (c .before .before .args .at + 1))
-
-add-result-2 : tie.Need-add-result-2
-add-result-2 c =
-    let at = c .before .before .args .at in
-    omega (arith, c .before .shared-slice-known .given at, c .shared-slice-known2 .given (at + 1))
+number-requires : tie.Need-number-requires
+number-requires c κs = search needs
 
 returns : tie.Need-returns
 returns c =
-    let at = c .before .before .args .at in
-    (refl, omega (arith, c .before .shared-slice-known .given at, c .shared-slice-known2 .given (at + 1)))
+    let start = c .before .before .before .before in
+    let byte = c .before .before .before .shared-slice-known .given in
+    (c .number .ensures, omega (arith, c .number .ensures, byte (start .args .at), byte (start .args .at + 1)))
 
 pub number-at-spec : {M : Type 1} → statement M
 number-at-spec =
     tie.close
     (tie.spec
-    shared-slice-read-result
-    cast-result
-    mul-result
-    add-result
-    shared-slice-read-result-2
-    cast-result-2
-    add-result-2
+    shared-slice-read-number
+    add-number
+    shared-slice-read-number-2
+    number-requires
     returns)
