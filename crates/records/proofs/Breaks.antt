@@ -1,5 +1,5 @@
 -- The loop over the indices: the reduced form's clause, tested on two tables that show a form. Assumes nothing.
-use mathlib.Core.Path.{_≡_, refl, sym, ap, _∙_}
+use mathlib.Core.Path.{_≡_, refl, sym, ap, subst, _∙_}
 use mathlib.Core.Bool.{Bool, true, false, cond, true≢false}
 use mathlib.Core.List.{List}
 use Prim.Native.Nat.{ℕ, zero, suc, _+_, _-_, _<_, _≤_}
@@ -10,7 +10,7 @@ use Rattle.group.specs.Forms.{Form}
 use Rattle.group.specs.Limits.{limit}
 use Rattle.refusals.specs.Outcomes.{Outcome, accepted, refused, dropValue}
 use Rattle.records.specs.Reading.{breaks, findBreak}
-use Rattle.records.specs.inside.Steps.{isBreak, Shown, NoBreak}
+use Rattle.records.specs.inside.Steps.{isBreak, Shown, Unbroken}
 
 -- The tables' test at an index is the form's.
 shown-break : (f : Form) (b a : List ℕ) (i : ℕ) → Shown f b a → i ≤ limit
@@ -38,9 +38,9 @@ unfolding findBreak
 first-none f i zero e = refl
 first-none f i (suc k) e = absurd (omega arith)
 
--- Amid the loop: no index below i breaks the clause.
-pub record Unbroken (b a : List ℕ) (i : ℕ) : Type 0 where
-  pub goes-on : (f : Form) → Shown f b a → findBreak f i (suc limit - i) ≡ findBreak f 0 (suc limit)
+-- At the start nothing is said.
+pub unbroken-none : (b a : List ℕ) → Unbroken b a 0
+unbroken-none b a = record { goes-on = λ f h. refl }
 
 module _ {b a : List ℕ} {i : ℕ} (h : Unbroken b a i) (f : Form) (sh : Shown f b a) where
   next : i ≤ limit → (t : Bool)
@@ -72,26 +72,29 @@ module _ {b a : List ℕ} {i : ℕ} (h : Unbroken b a i) (f : Form) (sh : Shown 
       ap (λ (o : Outcome Form). dropValue o)
       (sym (first-none f i (suc limit - i) (omega (arith, lt))) ∙ h .goes-on f sh)
 
--- The loop without an exit: where no break was found so far, no index below i breaks the clause.
-pub record SeenSo (b a : List ℕ) (found : Bool) (i : ℕ) : Type 0 where
-  pub unbroken : found ≡ false → Unbroken b a i
+-- The loop without an exit over a block: where no break was found so far, no index from the start on below i breaks the
+-- clause.
+pub record SeenSo (b a : List ℕ) (start : ℕ) (found : Bool) (i : ℕ) : Type 0 where
+  pub unbroken : found ≡ false → Unbroken b a start → Unbroken b a i
 
-pub seen-none : (b a : List ℕ) → SeenSo b a false 0
-seen-none b a = record { unbroken = λ e. record { goes-on = λ f h. refl } }
+pub seen-none : (b a : List ℕ) (start k i : ℕ) → i ≡ start + k → k ≡ 0 → SeenSo b a start false i
+seen-none b a start k i e z =
+    let same : start ≡ i = omega arith in
+    record { unbroken = λ n u. subst (Unbroken b a) same u }
 
-pub seen-more : {b a : List ℕ} {found more : Bool} {i : ℕ} → SeenSo b a found i → i ≤ limit
+pub seen-more : {b a : List ℕ} {start : ℕ} {found more : Bool} {i : ℕ} → SeenSo b a start found i → i ≤ limit
     → more ≡ cond (isBreak (getD b i 0) (getD a i 0) (getD b (i + 1) 0) (getD a (i + 1) 0)) true found
-    → SeenSo b a more (i + 1)
-seen-more {b} {a} {found} {more} {i} s le e =
+    → SeenSo b a start more (i + 1)
+seen-more {b} {a} {start} {found} {more} {i} s le e =
     go (isBreak (getD b i 0) (getD a i 0) (getD b (i + 1) 0) (getD a (i + 1) 0)) refl e
   where
     go : (t : Bool) → isBreak (getD b i 0) (getD a i 0) (getD b (i + 1) 0) (getD a (i + 1) 0) ≡ t
-        → more ≡ cond t true found → SeenSo b a more (i + 1)
-    go true q m = record { unbroken = λ k. absurd (true≢false (sym m ∙ k)) }
+        → more ≡ cond t true found → SeenSo b a start more (i + 1)
+    go true q m = record { unbroken = λ k u. absurd (true≢false (sym m ∙ k)) }
     go false q m = record {
-      unbroken = λ k. record { goes-on = λ f h. break-later (s .unbroken (sym m ∙ k)) f h le (sym q) };
+      unbroken = λ k u. record { goes-on = λ f h. break-later (s .unbroken (sym m ∙ k) u) f h le (sym q) };
     }
 
--- None was found at all.
-pub seen-all : {b a : List ℕ} {found : Bool} {i : ℕ} → SeenSo b a found i → limit < i → found ≡ false → NoBreak b a
-seen-all s lt e = λ f h. break-nowhere (s .unbroken e) f h lt
+pub seen-same : {b a : List ℕ} {start : ℕ} {found : Bool} {i j : ℕ} → i ≡ j → SeenSo b a start found i
+    → SeenSo b a start found j
+seen-same {b} {a} {start} {found} e s = subst (SeenSo b a start found) e s

@@ -7,7 +7,7 @@ ghost use Rattle.lists.specs.Tables.{filled};
 ghost use Rattle.group.specs.Limits.{limit};
 ghost use Rattle.records.specs.Reading.{entriesAt, exponentAt};
 ghost use Rattle.records.specs.inside.Steps.{isBreak, Proper, Ordered, placePowers, FieldsFilled};
-ghost use Rattle.records.specs.inside.Steps.{BreakFound, NoBreak};
+ghost use Rattle.records.specs.inside.Steps.{BreakFound, Unbroken};
 use crate::BASE_SIZE;
 use crate::reading::number_at;
 use fields::HEAD_SIZE;
@@ -15,6 +15,9 @@ use refusals::GeneratorIndex;
 use refusals::LIMIT;
 use refusals::Refusal;
 use refusals::Verdict;
+
+// The indices of a block.
+const BLOCK: usize = 64;
 
 // The entries up to the limit become 0.
 fn clear(table: &mut [u16])
@@ -113,26 +116,44 @@ fn or_breaks(found: bool, b: u16, a: u16, next_b: u16, next_a: u16) -> bool
     found
 }
 
-// Whether some index breaks the clause. The loop has no exit, so that the compiler tests many indices at once.
-fn any_break(b: &[u16], a: &[u16]) -> bool
-    requires { ⌜ (suc limit < length (now b)) × (suc limit < length (now a)) ⌝ }
-    ensures { λ r. ⌜ (r ≡ false → NoBreak (now (b .entry)) (now (a .entry))) ⌝ }
+// Whether some index of a block breaks the clause. The loop has no exit, so that the compiler tests many at once.
+fn block_breaks(b: &[u16], a: &[u16], start: usize) -> bool
+    requires { ⌜ (suc limit < length (now b)) × (suc limit < length (now a)) × (start + 64 ≤ suc limit) ⌝ }
+    ensures { λ r. ⌜ (r ≡ false → Unbroken (now (b .entry)) (now (a .entry)) start
+        → Unbroken (now (b .entry)) (now (a .entry)) (start + 64)) ⌝ }
 {
     let mut found = false;
-    let mut i = 0;
-    while i <= LIMIT {
+    let mut k = 0;
+    while k < BLOCK {
+        let i = start + k;
         found = or_breaks(found, b[i], a[i], b[i + 1], a[i + 1]);
-        i += 1;
+        k += 1;
     }
     found
 }
 
-// The smallest index that breaks the clause, if any.
-fn first_break(b: &[u16], a: &[u16]) -> Verdict
+// Where the first block begins that has an index which breaks the clause; with none, where the last whole block ends.
+fn first_block(b: &[u16], a: &[u16]) -> usize
     requires { ⌜ (suc limit < length (now b)) × (suc limit < length (now a)) ⌝ }
+    ensures { λ r. ⌜ (r ≤ suc limit) × Unbroken (now (b .entry)) (now (a .entry)) r ⌝ }
+{
+    let mut start = 0;
+    while start + BLOCK <= LIMIT + 1 {
+        if block_breaks(b, a, start) {
+            return start;
+        }
+        start += BLOCK;
+    }
+    start
+}
+
+// The smallest index that breaks the clause, if any, where none below a start does.
+fn first_break(b: &[u16], a: &[u16], start: usize) -> Verdict
+    requires { ⌜ (suc limit < length (now b)) × (suc limit < length (now a)) ⌝ }
+    requires { ⌜ (start ≤ suc limit) × Unbroken (now b) (now a) start ⌝ }
     ensures { λ r. ⌜ BreakFound (now (b .entry)) (now (a .entry)) r ⌝ }
 {
-    let mut i = 0;
+    let mut i = start;
     while i <= LIMIT {
         if breaks(b[i], a[i], b[i + 1], a[i + 1]) {
             return Verdict::Refused(Refusal::NotReduced(GeneratorIndex(i as u16)));
@@ -142,13 +163,11 @@ fn first_break(b: &[u16], a: &[u16]) -> Verdict
     Verdict::Accepted
 }
 
-// The same; whether there is one is asked first.
+// The same of all indices: block by block, then one by one in the block that has it.
 pub fn check_tables(b: &[u16], a: &[u16]) -> Verdict
     requires { ⌜ (suc limit < length (now b)) × (suc limit < length (now a)) ⌝ }
     ensures { λ r. ⌜ BreakFound (now (b .entry)) (now (a .entry)) r ⌝ }
 {
-    if any_break(b, a) {
-        return first_break(b, a);
-    }
-    Verdict::Accepted
+    let start = first_block(b, a);
+    first_break(b, a, start)
 }

@@ -93,6 +93,9 @@ fn broken_at(i: usize, random: &mut Random) -> [Vec<u16>; 2] {
     for side in &mut sides {
         side[i] = 1;
         side[i + 1] = 0;
+        if i == 0 {
+            side[LIMIT] = 0;
+        }
     }
     sides
 }

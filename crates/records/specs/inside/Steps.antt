@@ -2,7 +2,7 @@
 use mathlib.Core.Path.{_≡_}
 use mathlib.Core.Bool.{Bool, cond}
 use mathlib.Core.List.{List, [], _∷_}
-use Prim.Native.Nat.{ℕ, suc, _≤_, _<_}
+use Prim.Native.Nat.{ℕ, suc, _-_, _≤_, _<_}
 use lib.ListN.{getD, set}
 use lib.Dec.{eqb, ltb}
 use Rattle.group.specs.Forms.{bSide, aSide, Form, exponent}
@@ -10,7 +10,6 @@ use Rattle.lists.specs.Tables.{filled}
 use Rattle.group.specs.Limits.{limit}
 use Rattle.refusals.specs.Outcomes.{Outcome, accepted, refused, then, verdictOf, dropValue}
 use Rattle.refusals.specs.declared.Verdict.{Verdict}
-use Rattle.refusals.specs.declared.Verdict.the-variants.{Accepted}
 use Rattle.records.specs.declared.frame.Frame.{Frame}
 use Rattle.records.specs.declared.frame.Frame.the-variants.{Exact, Broken}
 use Rattle.records.specs.declared.reading.Scan.{Scan}
@@ -60,9 +59,9 @@ Shown f b a = (i : ℕ) → i ≤ suc limit → (getD b i 0 ≡ exponent bSide f
 abbrev pub BreakFound : List ℕ → List ℕ → Verdict → Type 0
 BreakFound b a r = (f : Form) → Shown f b a → verdictOf r ≡ dropValue (findBreak f 0 (suc limit))
 
--- No index up to the limit breaks the clause, of any form that the tables show.
-abbrev pub NoBreak : List ℕ → List ℕ → Type 0
-NoBreak b a = BreakFound b a Accepted
+-- No index below i breaks the clause, of any form that the tables show.
+pub record Unbroken (b a : List ℕ) (i : ℕ) : Type 0 where
+  pub goes-on : (f : Form) → Shown f b a → findBreak f i (suc limit - i) ≡ findBreak f 0 (suc limit)
 
 -- Both tables hold the exponents of the fields by index, up to the limit; everything beyond is unchanged.
 pub record FieldsFilled (s b a b′ a′ : List ℕ) : Type 0 where

@@ -1,20 +1,21 @@
 -- `first_break` meets its contract. Assumes nothing.
-use mathlib.Core.Path.{refl, sym, _∙_}
+use mathlib.Core.Path.{sym, _∙_}
 use Prim.Native.Nat.{suc, _-_, _≤_}
 use native.Mathlib.Omega.{arith}
 use Rattle.group.specs.Limits.{limit}
-use Rattle.records.proofs.Breaks.{Unbroken, break-here, break-later, break-nowhere}
+use Rattle.records.specs.inside.Steps.{Unbroken}
+use Rattle.records.proofs.Breaks.{break-here, break-later, break-nowhere}
 use Rattle.records.proofs.tables.first_break.Statement.{statement}
 use Rattle.records.proofs.tables.first_break.Tie as tie
 
 abbrev Inv-loop : tie.InvT-loop
-Inv-loop b a i₀ i = (i ≤ suc limit) × Unbroken b a i
+Inv-loop b a start i₀ i = (i ≤ suc limit) × Unbroken b a i
 
 abbrev μ-loop : tie.MeasureT-loop
-μ-loop b a i₀ i = suc limit - i
+μ-loop b a start i₀ i = suc limit - i
 
 loop-holds : tie.Need-loop-holds Inv-loop μ-loop
-loop-holds c = (omega arith, record { goes-on = λ f h. refl })
+loop-holds c = c .before .before .pre .1
 
 mul-breaks : tie.Need-mul-breaks Inv-loop μ-loop
 mul-breaks c = omega arith
@@ -49,8 +50,8 @@ shared-slice-read-breaks-4 c = omega arith
 breaks-requires : tie.Need-breaks-requires Inv-loop μ-loop
 breaks-requires c κs = tt
 
-cast-t20 : tie.Need-cast-t20 Inv-loop μ-loop
-cast-t20 c = omega arith
+cast-t21 : tie.Need-cast-t21 Inv-loop μ-loop
+cast-t21 c = omega arith
 
 returns : tie.Need-returns Inv-loop μ-loop
 returns c =
@@ -100,7 +101,7 @@ first-break-spec =
     mul-breaks-4
     shared-slice-read-breaks-4
     breaks-requires
-    cast-t20
+    cast-t21
     returns
     add-i
     loop-less

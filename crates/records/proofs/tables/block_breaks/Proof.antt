@@ -1,19 +1,22 @@
--- `any_break` meets its contract. Assumes nothing.
-use Prim.Native.Nat.{suc, _-_, _≤_}
+-- `block_breaks` meets its contract. Assumes nothing.
+use mathlib.Core.Path.{_≡_, refl}
+use Prim.Native.Nat.{_+_, _-_, _≤_}
 use native.Mathlib.Omega.{arith}
-use Rattle.group.specs.Limits.{limit}
-use Rattle.records.proofs.Breaks.{SeenSo, seen-none, seen-more, seen-all}
-use Rattle.records.proofs.tables.any_break.Statement.{statement}
-use Rattle.records.proofs.tables.any_break.Tie as tie
+use Rattle.records.proofs.Breaks.{SeenSo, seen-none, seen-more, seen-same}
+use Rattle.records.proofs.tables.block_breaks.Statement.{statement}
+use Rattle.records.proofs.tables.block_breaks.Tie as tie
 
 abbrev Inv-loop : tie.InvT-loop
-Inv-loop b a found₀ i₀ found i = (i ≤ suc limit) × SeenSo b a found i
+Inv-loop b a start found₀ k₀ found k = (k ≤ 64) × SeenSo b a start found (start + k)
 
 abbrev μ-loop : tie.MeasureT-loop
-μ-loop b a found₀ i₀ found i = suc limit - i
+μ-loop b a start found₀ k₀ found k = 64 - k
 
 loop-holds : tie.Need-loop-holds Inv-loop μ-loop
-loop-holds c = (omega arith, seen-none _ _)
+loop-holds c = (omega arith, seen-none _ _ _ 0 _ refl refl)
+
+add-i : tie.Need-add-i Inv-loop μ-loop
+add-i c = omega arith
 
 mul-or-breaks : tie.Need-mul-or-breaks Inv-loop μ-loop
 mul-or-breaks c = omega arith
@@ -48,8 +51,8 @@ shared-slice-read-or-breaks-4 c = omega arith
 or-breaks-requires : tie.Need-or-breaks-requires Inv-loop μ-loop
 or-breaks-requires c κs = tt
 
-add-i : tie.Need-add-i Inv-loop μ-loop
-add-i c = omega arith
+add-k : tie.Need-add-k Inv-loop μ-loop
+add-k c = omega arith
 
 loop-less : tie.Need-loop-less Inv-loop μ-loop
 loop-less c = omega arith
@@ -57,18 +60,27 @@ loop-less c = omega arith
 loop-again : tie.Need-loop-again Inv-loop μ-loop
 loop-again c =
     let turn = c .before .before .before .before .before in
-    (omega arith, seen-more (turn .before .loop .inv .1) (omega (arith, turn .loop-test .taken)) (c .or-breaks .ensures))
+    let loop = turn .before in
+    let start = loop .before .before .before .args .start in
+    let k = loop .loop .k in
+    let next : start + k + 1 ≡ start + (k + 1) = omega arith in
+    (omega arith, seen-same next (seen-more (loop .loop .inv .1) (omega arith) (c .or-breaks .ensures)))
 
 returns : tie.Need-returns Inv-loop μ-loop
-returns c = λ e. seen-all (c .before .loop .inv .1) (omega arith) e
+returns c =
+    let loop = c .before in
+    let start = loop .before .before .before .args .start in
+    let whole : start + loop .loop .k ≡ start + 64 = omega arith in
+    λ e u. seen-same whole (loop .loop .inv .1) .unbroken e u
 
-pub any-break-spec : {M : Type 1} → statement M
-any-break-spec =
+pub block-breaks-spec : {M : Type 1} → statement M
+block-breaks-spec =
     tie.close
     (tie.spec
     Inv-loop
     μ-loop
     loop-holds
+    add-i
     mul-or-breaks
     shared-slice-read-or-breaks
     mul-or-breaks-2
@@ -80,7 +92,7 @@ any-break-spec =
     mul-or-breaks-4
     shared-slice-read-or-breaks-4
     or-breaks-requires
-    add-i
+    add-k
     loop-less
     loop-again
     returns)
