@@ -28,8 +28,8 @@ use Rattle.lengths.specs.Weights.{formLength}
 use Rattle.spelling.specs.Spelling.{spelling}
 use Rattle.spelling.specs.Contracts.{wordIn}
 use Rattle.words.specs.Recording.{encodeWord}
-use Rattle.receipts.specs.Text.{ascii, decimalWithin}
-use Rattle.receipts.specs.Receipts.{outputOf}
+use Rattle.rows.specs.Text.{ascii, decimalWithin}
+use Rattle.rows.specs.Receipts.{outputOf}
 use Rattle.claims.specs.Worked.{unreduced, unreducedRecord, deadEnd, deadEndRecord, Measures, IsSpelled}
 use Rattle.claims.specs.Worked.{Worked, WorkedForms}
 use Rattle.claims.proofs.WordCalls.{read-record}

@@ -18,7 +18,7 @@ use Rattle.refusals.specs.Outcomes.{accepted, replyOf}
 use Rattle.refusals.specs.declared.Reply.{Reply}
 use Rattle.lines.specs.Lines.{lineFeed, linesOf, joinLines, cutTo, wholeOf}
 use Rattle.lines.specs.Feeding.{meetLines, metIn}
-use Rattle.receipts.specs.Receipts.{receiptOf, receiptsFrom, outputOf}
+use Rattle.rows.specs.Receipts.{receiptOf, receiptsFrom, outputOf}
 use Rattle.receipts.specs.Serving.{served}
 use Rattle.receipts.specs.Contracts.{Begun, ServedPart, Finished, servingOf}
 use Rattle.receipts.specs.declared.Served.{Served}

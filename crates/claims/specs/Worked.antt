@@ -33,8 +33,8 @@ use Rattle.lengths.specs.Weights.{weight, formLength}
 use Rattle.spelling.specs.Spelling.{spelling}
 use Rattle.spelling.specs.Contracts.{spelledIn}
 use Rattle.words.specs.Recording.{encodeWord}
-use Rattle.receipts.specs.Text.{ascii}
-use Rattle.receipts.specs.Receipts.{outputOf}
+use Rattle.rows.specs.Text.{ascii}
+use Rattle.rows.specs.Receipts.{outputOf}
 
 -- The text is a word, and f is the form of that word.
 abbrev pub HasForm : String → Form → Type 0

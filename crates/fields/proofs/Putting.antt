@@ -1,13 +1,9 @@
--- A field written at the front of a buffer: which outcome it is, and what a copy of the body has written.
--- Assumes nothing.
-use mathlib.Core.Path.{_≡_, sym, ap, _∙_}
-use mathlib.Core.List.{List, _++_}
+-- A field written at the front of a buffer: which outcome it is. Assumes nothing.
+use mathlib.Core.Path.{_≡_}
+use mathlib.Core.List.{List}
 use Prim.Native.Nat.{ℕ, _+_, _<_, _≤_}
-use native.Mathlib.Omega.{arith}
-use lib.ListN.{length, take, drop}
-use lib.Seq.{take-all, sets-eq}
+use lib.ListN.{length}
 use borrow.Author.Tests.{lt-ltb, le-ltb}
-use Rattle.lists.specs.inside.Writes.{Wrote}
 use Rattle.refusals.specs.Outcomes.{accepted, refused}
 use Rattle.fields.specs.Fields.{field}
 use Rattle.fields.specs.inside.Reading.{headSize}
@@ -26,16 +22,3 @@ module _ (tag : ℕ) (body out : List ℕ) where
   pub field-fits : length body ≤ mostBody → headSize + length body ≤ length out
       → fieldIn tag body out ≡ accepted (field tag body)
   field-fits h g = simp (le-ltb mostBody (length body) h, le-ltb (length out) (headSize + length body) g)
-
--- All of a list was copied to the front of another.
-pub copy-wrote : (a l m : List ℕ) (n : ℕ) → n ≡ length a → n ≤ length l
-    → m ≡ take (length a) a ++ drop (length a) l → Wrote a l 0 m n
-copy-wrote a l m n e h c =
-    let whole : take (length a) a ≡ a = take-all (length a) a (omega arith) in
-    let end : length a ≡ 0 + length a = omega arith in
-    record {
-      ends = omega arith;
-      holds =
-          c ∙ ap (λ (b : List ℕ). b ++ drop (length a) l) whole ∙ ap (λ (k : ℕ). a ++ drop k l) end
-          ∙ sym (sets-eq a l 0 (omega arith));
-    }

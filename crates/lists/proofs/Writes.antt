@@ -1,7 +1,7 @@
 -- Runs of writes joined, one behind another; none of these asks whether the bytes fit.
 --     sets-append   two runs are one            write-then   two writes are one
 --     sets-replicate   equal elements, one by one
---     write-part    a write into a lent part, seen in the whole
+--     copy-wrote    a copy to the front             write-part   a write into a lent part, seen in the whole
 --     write-start, write-more, write-rest, write-done   a loop of writes: its start, a turn, all that is left, its end
 -- Assumes nothing.
 use mathlib.Core.Path.{_≡_, refl, sym, ap, _∙_}
@@ -60,6 +60,19 @@ wrote-same {a} {b} {s} {t} {i} {r} e w = record {
 
 pub wrote-none : (s : List ℕ) (i : ℕ) → Wrote [] s i s i
 wrote-none s i = record { ends = omega arith; holds = refl }
+
+-- All of a list was copied to the front of another.
+pub copy-wrote : (a l m : List ℕ) (n : ℕ) → n ≡ length a → n ≤ length l
+    → m ≡ take (length a) a ++ drop (length a) l → Wrote a l 0 m n
+copy-wrote a l m n e h c =
+    let whole : take (length a) a ≡ a = take-all (length a) a (omega arith) in
+    let end : length a ≡ 0 + length a = omega arith in
+    record {
+      ends = omega arith;
+      holds =
+          c ∙ ap (λ (b : List ℕ). b ++ drop (length a) l) whole ∙ ap (λ (k : ℕ). a ++ drop k l) end
+          ∙ sym (sets-eq a l 0 (omega arith));
+    }
 
 part-sets : (f : ℕ) (s b : List ℕ) (i : ℕ) → f ≤ length s → take f s ++ sets (drop f s) i b ≡ sets s (f + i) b
 part-sets f s [] i h = take-append-drop f s

@@ -1,10 +1,7 @@
 -- The answers of `serve`: a part that was taken, or refusal 7. Assumes nothing.
 use mathlib.Core.Path.{_≡_, refl, sym, ap, _∙_}
-use mathlib.Core.Bool.{Bool, true, false, not}
 use mathlib.Core.List.{List}
 use Prim.Native.Nat.{ℕ, _<_, _≤_}
-use borrow.Author.Tests.{ltb-true, ltb-false, not-true, not-false}
-use lib.Dec.{ltb}
 use lib.ListN.{length}
 use lib.Seq.{sets}
 use Rattle.refusals.specs.Outcomes.{Outcome, accepted, refused, after, then}
@@ -15,13 +12,6 @@ use Rattle.receipts.specs.declared.Served.{Served}
 use Rattle.receipts.specs.declared.Serving.{Serving}
 use Rattle.receipts.specs.declared.Serving.the-variants.{Taken}
 use Rattle.refusals.proofs.Placing.{fit-short, fit-long}
-
--- What `is_enough` answers.
-pub not-enough : (out n : ℕ) {r : Bool} → r ≡ not (ltb out (partSize n)) → not r ≡ true → out < partSize n
-not-enough out n {r} e h = ltb-true out (partSize n) (not-false (ltb out (partSize n)) (sym e ∙ not-true r h))
-
-pub is-enough : (out n : ℕ) {r : Bool} → r ≡ not (ltb out (partSize n)) → not r ≡ false → partSize n ≤ out
-is-enough out n {r} e h = ltb-false out (partSize n) (not-true (ltb out (partSize n)) (sym e ∙ not-false r h))
 
 module _ (part : List ℕ) (k held : ℕ) (line out : List ℕ) where
   abbrev m : Amid

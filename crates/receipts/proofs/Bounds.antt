@@ -10,10 +10,10 @@ use Rattle.lines.specs.Lines.{lineFeed}
 use Rattle.lines.specs.Feeding.{keptLine, keptCount}
 use Rattle.lines.proofs.Feeding.{keep-length}
 use Rattle.lines.proofs.Holding.{keep-size}
-use Rattle.receipts.specs.Receipts.{receiptOf}
-use Rattle.receipts.specs.Serving.{Amid, nextNumber, receiptThen, served, receiptSize}
+use Rattle.rows.specs.Receipts.{receiptOf, receiptSize}
+use Rattle.receipts.specs.Serving.{Amid, nextNumber, receiptThen, served}
 use Rattle.receipts.proofs.Parts.{served-end, served-more}
-use Rattle.receipts.proofs.Sizes.{receipt-length}
+use Rattle.rows.proofs.Sizes.{receipt-length}
 
 -- The room that n bytes of a part need, with so many bytes of a line held.
 abbrev pub room : (n bytes : ℕ) → ℕ

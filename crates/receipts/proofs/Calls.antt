@@ -13,12 +13,12 @@ use Rattle.refusals.specs.Outcomes.{Outcome, accepted, after, then, replyOf}
 use Rattle.refusals.specs.declared.Reply.{Reply}
 use Rattle.refusals.proofs.Outcomes.{accepted-same, accepted-refused}
 use Rattle.refusals.proofs.Placing.{fit-short, fit-long, placed-front}
-use Rattle.receipts.specs.Receipts.{receiptOf, receiptsFrom}
-use Rattle.receipts.specs.Serving.{Amid, lineSize, served, receiptSize, partSize}
+use Rattle.rows.specs.Receipts.{receiptOf, receiptsFrom, receiptSize}
+use Rattle.receipts.specs.Serving.{Amid, lineSize, served, partSize}
 use Rattle.receipts.specs.Contracts.{Finished, servingOf, answerOf, servedIn, ServedPart}
 use Rattle.receipts.specs.declared.Served.{Served}
 use Rattle.receipts.specs.declared.Serving.{Serving}
-use Rattle.receipts.proofs.Sizes.{receipt-length}
+use Rattle.rows.proofs.Sizes.{receipt-length}
 use Rattle.receipts.proofs.Bounds.{served-bounds}
 
 -- The receipt of a last line fits into the size stated.

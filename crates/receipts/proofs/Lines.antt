@@ -5,7 +5,6 @@ use mathlib.Core.List.{List, [], _∷_, _++_, append-assoc}
 use Prim.Native.Nat.{ℕ, suc, _+_, _^_, _<_, _≤_}
 use native.Mathlib.Decide.{decLt, ℕ-discrete}
 use native.Mathlib.Omega.{arith}
-use borrow.Author.Tests.{lt-ltb, le-ltb}
 use lib.ListN.{length, take, length-take}
 use lib.Seq.{take-all}
 use Rattle.lines.specs.Lines.{lineFeed, lastLine, linesFrom}
@@ -14,21 +13,11 @@ use Rattle.lines.proofs.Feeding.{keep-length}
 use Rattle.lines.proofs.Lines.{lines-end, lines-more}
 use Rattle.lines.proofs.Holding.{Holding, hold-none, hold-more}
 use Rattle.group.specs.Limits.{limit}
-use Rattle.group.specs.Bytes.{readWord}
-use Rattle.refusals.specs.Outcomes.{refused}
-use Rattle.letters.specs.Judging.{judgedReading, lineRead}
-use Rattle.receipts.specs.Receipts.{receiptBy, receiptOf, receiptsFrom}
+use Rattle.letters.specs.Judging.{lineRead}
+use Rattle.rows.specs.Receipts.{receiptBy, receiptOf, receiptsFrom}
 use Rattle.receipts.specs.Serving.{Amid, lineSize, nextNumber, receiptThen, served}
+use Rattle.rows.proofs.LineReads.{read-long}
 use Rattle.receipts.proofs.Parts.{served-end, served-more}
-
--- A line longer than the limit is refused, whatever it is.
-pub read-long : (line : List ℕ) → limit < length line → lineRead line ≡ refused 1 limit
-read-long line long = simp (lt-ltb limit (length line) long)
-
--- A line within the limit is refused for its first byte that is no letter, or is a word.
-pub read-short : (line : List ℕ) → length line ≤ limit
-    → lineRead line ≡ judgedReading (readWord line) (length line) (length line + 1) (length line + 1)
-read-short line short = simp (le-ltb limit (length line) short)
 
 -- A line cut to one byte more than the limit is read as the whole line.
 pub read-cut : (line : List ℕ) → lineRead (take lineSize line) ≡ lineRead line

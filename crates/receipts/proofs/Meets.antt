@@ -9,7 +9,7 @@ use lib.ListN.{length, take}
 use Rattle.lines.specs.Lines.{lineFeed}
 use Rattle.lines.specs.Feeding.{keptLine, keptCount, Met, meetLines}
 use Rattle.lines.proofs.Meeting.{met-end, met-more}
-use Rattle.receipts.specs.Receipts.{receiptOf, receiptsFrom}
+use Rattle.rows.specs.Receipts.{receiptOf, receiptsFrom}
 use Rattle.receipts.specs.Serving.{Amid, nextNumber, served}
 use Rattle.receipts.proofs.Parts.{served-end, served-more}
 use Rattle.receipts.proofs.Lines.{next-number}

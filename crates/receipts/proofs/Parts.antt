@@ -7,7 +7,7 @@ use borrow.Author.Tests.{eq-eqb, ne-eqb}
 use lib.ListN.{take}
 use Rattle.lines.specs.Lines.{lineFeed}
 use Rattle.lines.specs.Feeding.{keptLine, keptCount}
-use Rattle.receipts.specs.Receipts.{receiptOf}
+use Rattle.rows.specs.Receipts.{receiptOf}
 use Rattle.receipts.specs.Serving.{Amid, nextNumber, receiptThen, served}
 
 module _ (x : ℕ) (s : List ℕ) (k : ℕ) (line : List ℕ) (held : ℕ) where

@@ -1,13 +1,37 @@
--- What `finish` writes: the receipt of a last line that is not empty, or nothing. Assumes nothing.
-use mathlib.Core.Path.{_≡_, refl, sym, ap}
-use mathlib.Core.List.{List, [], _∷_, append-nil}
-use Prim.Native.Nat.{ℕ, zero, suc, _<_}
+-- What is put into a part that was lent, seen in the whole; and what `finish` writes: the receipt of a last line that is
+-- not empty, or nothing. Assumes nothing.
+use mathlib.Core.Path.{_≡_, refl, sym, ap, _∙_}
+use mathlib.Core.List.{List, [], _∷_, _++_, append-nil}
+use Prim.Native.Nat.{ℕ, zero, suc, _+_, _-_, _<_, _≤_}
 use native.Mathlib.Omega.{arith}
-use lib.ListN.{length, take}
+use lib.ListN.{length, take, drop, length-take, length-drop}
 use Rattle.lists.specs.inside.Writes.{Wrote}
-use Rattle.lists.proofs.Writes.{wrote-same, wrote-none}
+use Rattle.lists.proofs.Writes.{wrote-same, wrote-none, write-part}
+use Rattle.refusals.specs.declared.Reply.{Reply}
+use Rattle.refusals.specs.inside.Verdicts.{countIn}
+use Rattle.refusals.specs.Placing.{fitting, Placed}
+use Rattle.refusals.proofs.Placing.{placed-wrote}
 use Rattle.lines.specs.Lines.{lastLine}
-use Rattle.receipts.specs.Receipts.{receiptOf, receiptsFrom}
+use Rattle.rows.specs.Receipts.{receiptOf, receiptsFrom}
+
+-- The part from a place on was lent to a call that writes at its front, and there was room for the size stated.
+module _ (at : ℕ) (text out : List ℕ) (size : ℕ) (r : Reply) (n : ℕ) (h : at + size ≤ length out)
+    (e : n ≡ countIn r) where
+  -- The part.
+  abbrev part : List ℕ
+  part = take (length out - at) (drop at out)
+
+  inside : {y : List ℕ} → Placed (fitting size text part) part y r → Wrote text part 0 y n
+  inside p =
+      let w = placed-wrote r p (omega (arith, length-take (length out - at) (drop at out), length-drop at out)) in
+      record { ends = e ∙ w .ends; holds = w .holds }
+
+  pub part-wrote : {y : List ℕ} → Placed (fitting size text part) part y r
+      → Wrote text out at (take at out ++ (y ++ drop (length out - at) (drop at out))) (at + n)
+  part-wrote {y} p = write-part at text out y n (omega arith) (inside p)
+
+  pub part-count : {y : List ℕ} → Placed (fitting size text part) part y r → n ≡ length text
+  part-count p = omega (arith, inside p .ends)
 
 -- No byte is held: nothing is written.
 pub last-none : (k held : ℕ) (line out : List ℕ) → held ≡ 0

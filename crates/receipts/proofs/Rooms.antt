@@ -6,7 +6,8 @@ use native.Mathlib.Decide.{decLt}
 use native.Mathlib.Omega.{arith}
 use borrow.Author.Tests.{lt-ltb, le-ltb, le-leb, lt-leb}
 use lib.Dec.{ltb, leb}
-use Rattle.receipts.specs.Serving.{lineSize, receiptSize, partSize}
+use Rattle.receipts.specs.Serving.{lineSize, partSize}
+use Rattle.rows.specs.Receipts.{receiptSize}
 
 -- No room for the line that has begun.
 pub enough-short : (out part : ℕ) → out < 8 * lineSize → false ≡ not (ltb out (partSize part))

@@ -10,11 +10,11 @@ use Rattle.lists.specs.inside.Writes.{Wrote, Writing}
 use Rattle.lists.proofs.Writes.{write-start, write-more, write-done, writing-length}
 use Rattle.lines.specs.inside.Taking.{TookLine}
 use Rattle.lines.specs.declared.Fed.{Fed}
-use Rattle.receipts.specs.Receipts.{receiptOf}
-use Rattle.receipts.specs.Serving.{Amid, lineSize, nextNumber, receiptThen, served, receiptSize, partSize}
+use Rattle.rows.specs.Receipts.{receiptOf, receiptSize}
+use Rattle.receipts.specs.Serving.{Amid, lineSize, nextNumber, receiptThen, served, partSize}
 use Rattle.receipts.specs.inside.Taking.{PartTaken}
 use Rattle.receipts.proofs.Turns.{Ends, RunsOut, turn-ends, turn-runs-out}
-use Rattle.receipts.proofs.Sizes.{receipt-length}
+use Rattle.rows.proofs.Sizes.{receipt-length}
 use Rattle.receipts.proofs.Bounds.{room}
 
 -- What is left to take gives, from here, what the whole gives: the receipts are written up to here.

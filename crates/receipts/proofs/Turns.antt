@@ -13,7 +13,7 @@ use Rattle.lines.specs.inside.Taking.{Took, takeLine, TookLine}
 use Rattle.lines.specs.declared.Fed.{Fed}
 use Rattle.lines.proofs.Feeding.{keep-length, took-end, took-more}
 use Rattle.lines.proofs.Holding.{keep-size}
-use Rattle.receipts.specs.Receipts.{receiptOf}
+use Rattle.rows.specs.Receipts.{receiptOf}
 use Rattle.receipts.specs.Serving.{nextNumber, receiptThen, served}
 use Rattle.receipts.proofs.Parts.{served-end, served-more}
 

@@ -13,8 +13,8 @@ use Rattle.refusals.specs.declared.Reply.{Reply}
 use Rattle.receipts.specs.declared.Served.{Served}
 use Rattle.receipts.specs.declared.Serving.{Serving}
 use Rattle.receipts.specs.declared.Serving.the-variants.{Taken, Refused}
-use Rattle.receipts.specs.Receipts.{header, receiptsFrom}
-use Rattle.receipts.specs.Serving.{Amid, lineSize, served, receiptSize, partSize}
+use Rattle.rows.specs.Receipts.{header, receiptsFrom, receiptSize}
+use Rattle.receipts.specs.Serving.{Amid, lineSize, served, partSize}
 
 -- The header.
 abbrev pub Begun : (out out′ : List ℕ) → Reply → Type 0

@@ -1,6 +1,4 @@
--- The receipts of lines, and of an input that comes in parts.
-pub mod Text
-pub mod Receipts
+-- The receipts of an input that comes in parts.
 pub mod Serving
 pub mod Contracts
 -- what no claim reaches

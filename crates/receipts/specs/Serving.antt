@@ -10,8 +10,7 @@ use lib.Dec.{eqb}
 use Rattle.lines.specs.Lines.{lineFeed}
 use Rattle.lines.specs.Feeding.{keptLine, keptCount}
 use Rattle.group.specs.Limits.{limit}
-use Rattle.records.specs.Format.{bufferSize}
-use Rattle.receipts.specs.Receipts.{receiptOf}
+use Rattle.rows.specs.Receipts.{receiptOf, receiptSize}
 
 -- The bytes of a line that are kept: one more than a word has letters, so that a longer line is seen to be one.
 abbrev pub lineSize : ℕ
@@ -40,11 +39,6 @@ served (x ∷ s) number line held =
     cond (eqb x lineFeed)
     (receiptThen (receiptOf number (take held line)) (served s (nextNumber number) line 0))
     (served s number (keptLine line held x) (keptCount line held))
-
--- The most bytes of the receipt of a line of n bytes: four numbers of 20 digits at most, five bytes between and behind
--- the fields, and two digits for each byte of the record.
-abbrev pub receiptSize : ℕ → ℕ
-receiptSize n = 85 + 2 * bufferSize n
 
 -- The bytes that the receipts of a part of n bytes need: every byte may end a line, and a line may have begun before.
 abbrev pub partSize : ℕ → ℕ

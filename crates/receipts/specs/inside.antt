@@ -1,4 +1,3 @@
--- The steps of the functions, and what the function inside promises of a part.
+-- What the function inside promises of a part.
 -- Inside: no claim reaches these definitions; a reader of the claims need not believe them.
-pub mod Steps
 pub mod Taking

@@ -2,25 +2,21 @@
 // part, calls, and writes what stands at the front of the output buffer.
 ghost use mathlib.Core.Path.{_≡_};
 ghost use mathlib.Core.Bool.{not};
-ghost use Prim.Native.Nat.{_≤_};
-ghost use lib.ListN.{length};
+ghost use Prim.Native.Nat.{_+_, _≤_};
+ghost use lib.ListN.{length, take};
 ghost use lib.Dec.{ltb};
+ghost use Rattle.lists.specs.inside.Writes.{Wrote};
+ghost use Rattle.rows.specs.Receipts.{receiptOf, receiptSize};
 ghost use Rattle.receipts.specs.Serving.{served, partSize};
 ghost use Rattle.receipts.specs.Contracts.{Begun, Finished, ServedPart};
 ghost use Rattle.receipts.specs.inside.Taking.{PartTaken};
-use records::BASE_SIZE;
 use refusals::LIMIT;
 use refusals::Refusal;
 use refusals::Reply;
-
-mod receipt;
-mod text;
+use rows::SHORT_RECEIPT;
 
 // The bytes of a line that are kept: one more than a word has letters.
 pub const LINE: usize = LIMIT + 1;
-
-// The most bytes of the receipt of a line, but for eight for each of its letters.
-const SHORT_RECEIPT: usize = 85 + 2 * BASE_SIZE;
 
 // The most bytes of the receipt of a line that is kept.
 const LONG_RECEIPT: usize = SHORT_RECEIPT + 8 * LINE;
@@ -54,7 +50,7 @@ pub fn begin(out: &mut [u8]) -> Reply
     if out.len() < HEADER_SIZE {
         return Reply::Refused(Refusal::ShortBuffer);
     }
-    Reply::Number(text::put(b"line letters carets length record\n", out, 0))
+    Reply::Number(bytes::copy(b"line letters carets length record\n", out))
 }
 
 // Whether a buffer is long enough for the receipts of a part.
@@ -65,6 +61,27 @@ fn is_enough(out: usize, part: usize) -> bool
         return false;
     }
     part <= (out - 8 * LINE) / (SHORT_RECEIPT + 8)
+}
+
+// The receipt of a line, at a place of a buffer that has room for it.
+fn put_at(number: u64, line: &[u8], out: &mut [u8], at: usize) -> usize
+    requires { ⌜ at + receiptSize (length (now line)) ≤ length (now out) ⌝ }
+    ensures { λ r. ⌜ Wrote (receiptOf number (now (line .entry))) (now (out .entry)) at (now (out .exit)) r ⌝ }
+{
+    let reply = rows::put_receipt(number, line, &mut out[at..]);
+    at + refusals::count_of(reply)
+}
+
+// The receipt of the bytes of a line that are held in a buffer.
+fn put_held(number: u64, line: &[u8], held: usize, out: &mut [u8], at: usize) -> usize
+    requires { ⌜ at + receiptSize (length (take held (now line))) ≤ length (now out) ⌝ }
+    ensures { λ r. ⌜ Wrote (receiptOf number (take held (now (line .entry)))) (now (out .entry)) at
+        (now (out .exit)) r ⌝ }
+{
+    if held < line.len() {
+        return put_at(number, &line[..held], out, at);
+    }
+    put_at(number, line, out, at)
 }
 
 // The receipts of the lines that end in a part, at the front of a buffer.
@@ -88,7 +105,7 @@ fn serve_lines(
         at = fed.next;
         h = fed.held;
         if fed.ended {
-            written = receipt::put_held(k, line, h, out, written);
+            written = put_held(k, line, h, out, written);
             k = std::num::wrapping_add_u64(k, 1);
             h = 0;
         }
@@ -128,5 +145,5 @@ pub fn finish(number: u64, held: usize, line: &[u8; LINE], out: &mut [u8]) -> Re
     if held == 0 {
         return Reply::Number(0);
     }
-    Reply::Number(receipt::put_held(number, line, held, out, 0))
+    Reply::Number(put_held(number, line, held, out, 0))
 }

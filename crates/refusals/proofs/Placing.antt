@@ -2,7 +2,7 @@
 -- front of the buffer then. Assumes nothing.
 use mathlib.Core.Path.{_≡_, sym, ap, _∙_}
 use mathlib.Core.List.{List}
-use Prim.Native.Nat.{ℕ, _<_, _≤_}
+use Prim.Native.Nat.{ℕ, _+_, _<_, _≤_}
 use native.Mathlib.Decide.{decLt}
 use native.Mathlib.Omega.{arith}
 use borrow.Author.Tests.{lt-ltb, le-ltb}
@@ -11,6 +11,8 @@ use lib.Seq.{sets}
 use Rattle.lists.specs.inside.Writes.{Wrote}
 use Rattle.lists.proofs.Writes.{sets-front}
 use Rattle.refusals.specs.declared.Reply.{Reply}
+use Rattle.refusals.specs.declared.Reply.the-variants.{Number, Refused}
+use Rattle.refusals.specs.inside.Verdicts.{countIn}
 use Rattle.refusals.specs.Outcomes.{Outcome, accepted, refused, after, valued, replyOf}
 use Rattle.refusals.specs.Placing.{fitting, Placed}
 use Rattle.refusals.proofs.Outcomes.{accepted-same, accepted-refused}
@@ -65,3 +67,17 @@ placed-front {size} {text} {out} {out′} {r} {n} h le e = go (decLt (length out
         let same : n ≡ length text = accepted-same (sym e ∙ h .result ∙ ap (valued length) fits) in
         ap (take n) (h .bytes ∙ ap (placing out) fits)
         ∙ sets-front text out n (sym same) (omega (arith, long, le, same))
+
+-- The same as a write, of as many bytes as the answer counts.
+pub placed-wrote : {size : ℕ} {text out out′ : List ℕ} (r : Reply) → Placed (fitting size text out) out out′ r
+    → size ≤ length out → Wrote text out 0 out′ (countIn r)
+placed-wrote {size} {text} {out} {out′} r h long =
+    let fits : fitting size text out ≡ accepted text = fit-long size text out long in
+    record {
+      ends = counted r (h .result ∙ ap (valued length) fits);
+      holds = h .bytes ∙ ap (placing out) fits;
+    }
+  where
+    counted : (q : Reply) → replyOf q ≡ accepted (length text) → countIn q ≡ 0 + length text
+    counted (Number n) e = let same : n ≡ length text = accepted-same e in omega arith
+    counted (Refused x) e = absurd (accepted-refused (sym e))

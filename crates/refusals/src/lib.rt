@@ -2,7 +2,7 @@
 ghost use mathlib.Core.Path.{_≡_};
 ghost use Rattle.group.specs.Limits.{limit as theLimit};
 ghost use Rattle.refusals.specs.Refusals.{numberOf, placeOf};
-ghost use Rattle.refusals.specs.inside.Verdicts.{refusalIn};
+ghost use Rattle.refusals.specs.inside.Verdicts.{refusalIn, countIn};
 
 // The most letters of a word; also the highest index and the highest sum of exponents of a record.
 pub const LIMIT: usize = 4096;
@@ -94,5 +94,15 @@ pub fn refusal_of(verdict: Verdict) -> Refusal
     match verdict {
         Verdict::Accepted => Refusal::BadFrame,
         Verdict::Refused(r) => r,
+    }
+}
+
+// The number of a reply. A refusal has none, and 0 stands for it; no caller asks it there.
+pub fn count_of(reply: Reply) -> usize
+    ensures { λ r. ⌜ r ≡ countIn reply ⌝ }
+{
+    match reply {
+        Reply::Number(n) => n,
+        Reply::Refused(_) => 0,
     }
 }

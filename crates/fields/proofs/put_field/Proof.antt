@@ -3,8 +3,8 @@ use mathlib.Core.Path.{refl}
 use native.Mathlib.Omega.{arith}
 use borrow.Author.Needs.{needs}
 use Rattle.refusals.proofs.Placing.{place-refused, place-wrote}
-use Rattle.lists.proofs.Writes.{write-then, write-part}
-use Rattle.fields.proofs.Putting.{field-large, field-short, field-fits, copy-wrote}
+use Rattle.lists.proofs.Writes.{write-then, write-part, copy-wrote}
+use Rattle.fields.proofs.Putting.{field-large, field-short, field-fits}
 use Rattle.fields.proofs.put_field.Statement.{statement}
 use Rattle.fields.proofs.put_field.Tie as tie
 

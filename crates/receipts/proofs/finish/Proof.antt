@@ -3,7 +3,8 @@ use mathlib.Core.Path.{refl}
 use native.Mathlib.Omega.{arith}
 use borrow.Author.Needs.{needs}
 use lib.ListN.{length-take}
-use Rattle.receipts.specs.Serving.{lineSize, receiptSize}
+use Rattle.receipts.specs.Serving.{lineSize}
+use Rattle.rows.specs.Receipts.{receiptSize}
 use Rattle.refusals.proofs.Placing.{place-short, place-long}
 use Rattle.receipts.proofs.Placing.{last-none, last-some}
 use Rattle.receipts.proofs.finish.Statement.{statement}

@@ -1,0 +1,67 @@
+-- `put_record` meets its contract: the numbers, the digits of the record, and byte 0A hex are one row. Assumes nothing.
+use native.Mathlib.Omega.{arith}
+use borrow.Author.Needs.{needs}
+use Rattle.lists.proofs.Writes.{write-then, wrote-same}
+use Rattle.rows.proofs.Hex.{hex-length}
+use Rattle.rows.proofs.Fields.{numbers-end, record-row}
+use Rattle.rows.proofs.row.put_record.Statement.{statement}
+use Rattle.rows.proofs.row.put_record.Tie as tie
+
+put-numbers-requires : tie.Need-put-numbers-requires
+put-numbers-requires c κs = search needs
+
+put-hex-requires : tie.Need-put-hex-requires
+put-hex-requires c κs =
+    let first = c .before .before .before in
+    let entry = first .before .before .before .before in
+    let x = entry .args in
+    omega (
+      arith,
+      entry .pre,
+      first .put-numbers .kept,
+      numbers-end (x .k) (x .l) (x .m) (x .n) (omega arith) (omega arith) (omega arith) (omega arith)
+          (first .put-numbers .ensures),
+    )
+
+slice-aggregate-put : tie.Need-slice-aggregate-put
+slice-aggregate-put c = search needs
+
+put-requires : tie.Need-put-requires
+put-requires c κs =
+    let hex = c .before .before .before .before in
+    let first = hex .before .before .before .before in
+    let entry = first .before .before .before .before in
+    let x = entry .args in
+    omega (
+      arith,
+      entry .pre,
+      first .put-numbers .kept,
+      numbers-end (x .k) (x .l) (x .m) (x .n) (omega arith) (omega arith) (omega arith) (omega arith)
+          (first .put-numbers .ensures),
+      hex .put-hex .kept,
+      hex .put-hex .ensures .ends,
+      hex-length (x .«record» .now),
+    )
+
+same-length : tie.Need-same-length
+same-length c = search needs
+
+returns : tie.Need-returns
+returns c =
+    let put = c .before .before in
+    let hex = put .before .before .before .before .before in
+    let first = hex .before .before .before .before in
+    let x = first .before .before .before .before .args in
+    wrote-same (record-row (x .k) (x .l) (x .m) (x .n) (x .«record» .now))
+    (write-then (first .put-numbers .ensures) (write-then (hex .put-hex .ensures) (put .put .ensures)))
+
+pub put-record-spec : {M : Type 1} → statement M
+put-record-spec =
+    tie.close
+    (tie.spec
+    put-numbers-requires
+    put-hex-requires
+    slice-aggregate-put
+    put-requires
+    same-length
+    returns)

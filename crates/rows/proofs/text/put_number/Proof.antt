@@ -1,0 +1,43 @@
+-- `put_number` meets its contract: the digits, then the byte. Assumes nothing.
+use mathlib.Core.Path.{refl}
+use mathlib.Core.List.{[], _∷_}
+use native.Mathlib.Omega.{arith}
+use borrow.Author.Needs.{needs}
+use Rattle.lists.proofs.Writes.{write-then}
+use Rattle.rows.proofs.Decimals.{decimal-length}
+use Rattle.rows.proofs.text.put_number.Statement.{statement}
+use Rattle.rows.proofs.text.put_number.Tie as tie
+
+put-decimal-requires : tie.Need-put-decimal-requires
+put-decimal-requires c κs = search needs
+
+slice-write-out : tie.Need-slice-write-out
+slice-write-out c =
+    let put = c .before .before in
+    let entry = put .before .before .before in
+    omega (
+      arith,
+      entry .pre,
+      put .put-decimal .ensures,
+      put .put-decimal .kept,
+      decimal-length (entry .args .n) (omega arith),
+    )
+
+add-result : tie.Need-add-result
+add-result c =
+    let put = c .before .before in
+    let entry = put .before .before .before in
+    omega (arith, entry .pre, put .put-decimal .ensures, decimal-length (entry .args .n) (omega arith))
+
+same-length : tie.Need-same-length
+same-length c = search needs
+
+returns : tie.Need-returns
+returns c =
+    let put = c .before .before in
+    write-then {b = put .before .before .before .args .behind ∷ []} (put .put-decimal .ensures)
+    (record { ends = refl; holds = refl })
+
+pub put-number-spec : {M : Type 1} → statement M
+put-number-spec =
+    tie.close (tie.spec put-decimal-requires slice-write-out add-result same-length returns)

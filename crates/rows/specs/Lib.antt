@@ -1,0 +1,5 @@
+-- The receipts of lines.
+pub mod Text
+pub mod Receipts
+-- what no claim reaches
+pub mod inside

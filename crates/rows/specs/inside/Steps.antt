@@ -1,0 +1,56 @@
+-- The steps of the receipt writer, for the functions inside this crate. Assumes nothing.
+use mathlib.Core.List.{List, [], _∷_, _++_}
+use Prim.Native.Nat.{ℕ, suc, _+_, _*_, _≤_}
+use lib.ListN.{length}
+use Rattle.group.specs.Limits.{limit}
+use Rattle.refusals.specs.Outcomes.{Outcome, accepted, refused}
+use Rattle.records.specs.Format.{bufferSize}
+use Rattle.trees.specs.inside.Writing.{tableCarets}
+use Rattle.lengths.specs.inside.Contracts.{tableLength}
+use Rattle.words.specs.Recording.{Memory}
+use Rattle.rows.specs.Text.{decimal, hexOf}
+use Rattle.rows.specs.Receipts.{joinFields}
+
+-- The value of an outcome; 0 where there is none.
+abbrev pub valueIn : Outcome ℕ → ℕ
+valueIn (accepted n) = n
+valueIn (refused number place) = 0
+
+-- A number and the byte behind it.
+abbrev pub numberThen : (n behind : ℕ) → List ℕ
+numberThen n behind = decimal n ++ (behind ∷ [])
+
+-- The most bytes of a 64-bit number and the byte behind it: 20 digits and one.
+abbrev pub numberSize : ℕ
+numberSize = 21
+
+-- Four numbers, a space behind each.
+abbrev pub fourNumbers : (k l m n : ℕ) → List ℕ
+fourNumbers k l m n = numberThen k 32 ++ (numberThen l 32 ++ (numberThen m 32 ++ numberThen n 32))
+
+-- The most bytes of four numbers, a space behind each.
+abbrev pub numbersSize : ℕ
+numbersSize = 4 * numberSize
+
+-- The most bytes of the receipt of a refusal: three numbers, and `refused` with a space.
+abbrev pub refusalSize : ℕ
+refusalSize = 3 * numberSize + 8
+
+-- The receipt of a record with four numbers.
+abbrev pub recordRow : (k l m n : ℕ) (bytes : List ℕ) → List ℕ
+recordRow k l m n bytes = joinFields (decimal k ∷ decimal l ∷ decimal m ∷ decimal n ∷ hexOf bytes ∷ [])
+
+-- The receipt of two tables and a record.
+abbrev pub tablesRow : (number letters : ℕ) (b a bytes : List ℕ) → List ℕ
+tablesRow number letters b a bytes =
+    recordRow number letters (valueIn (tableCarets b a)) (valueIn (tableLength b a)) bytes
+
+-- Lines of at most so many letters are written from short tables.
+abbrev pub smallLetters : ℕ
+smallLetters = 64
+
+-- Memory that is long enough for a line, if it is within the limit.
+pub record LineRoom (line : List ℕ) (m : Memory) : Type 0 where
+  pub b-long : length line ≤ limit → suc (length line) ≤ length (m .b)
+  pub a-long : length line ≤ limit → suc (length line) ≤ length (m .a)
+  pub buffer-long : length line ≤ limit → bufferSize (length line) ≤ length (m .buffer)

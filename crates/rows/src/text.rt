@@ -1,0 +1,67 @@
+// Text at a place of a buffer; each function answers the place behind what it put.
+ghost use mathlib.Core.Path.{_≡_};
+ghost use mathlib.Core.List.{[], _∷_, _++_};
+ghost use Prim.Native.Nat.{_+_, _*_, _≤_, _<_};
+ghost use lib.ListN.{length};
+ghost use Rattle.io.specs.Digits.{glyph};
+ghost use Rattle.lists.specs.inside.Writes.{Wrote};
+ghost use Rattle.rows.specs.Text.{decimal, hexOf};
+ghost use Rattle.rows.specs.inside.Steps.{numberSize};
+
+// All bytes of a text.
+pub fn put(text: &[u8], out: &mut [u8], at: usize) -> usize
+    requires { ⌜ at + length (now text) ≤ length (now out) ⌝ }
+    ensures { λ r. ⌜ Wrote (now (text .entry)) (now (out .entry)) at (now (out .exit)) r ⌝ }
+{
+    let mut i = 0;
+    while i < text.len() {
+        out[at + i] = text[i];
+        i += 1;
+    }
+    at + i
+}
+
+// A number in decimal digits.
+fn put_decimal(n: u64, out: &mut [u8], at: usize) -> usize
+    requires { ⌜ at + 20 ≤ length (now out) ⌝ }
+    ensures { λ r. ⌜ Wrote (decimal n) (now (out .entry)) at (now (out .exit)) r ⌝ }
+{
+    let mut digits = [0u8; 20];
+    let k = io::decimal(n, &mut digits);
+    put(&digits[..k], out, at)
+}
+
+// A number in decimal digits, and a byte behind it.
+pub fn put_number(n: u64, behind: u8, out: &mut [u8], at: usize) -> usize
+    requires { ⌜ at + numberSize ≤ length (now out) ⌝ }
+    ensures { λ r. ⌜ Wrote (decimal n ++ (behind ∷ [])) (now (out .entry)) at (now (out .exit)) r ⌝ }
+{
+    let end = put_decimal(n, out, at);
+    out[end] = behind;
+    end + 1
+}
+
+// A hexadecimal digit.
+fn digit(d: u8) -> u8
+    requires { ⌜ d < 16 ⌝ }
+    ensures { λ r. ⌜ r ≡ glyph d ⌝ }
+{
+    if d < 10 { 48 + d } else { 87 + d }
+}
+
+// Bytes in hexadecimal digits, two each.
+pub fn put_hex(bytes: &[u8], out: &mut [u8], at: usize) -> usize
+    requires { ⌜ at + 2 * length (now bytes) ≤ length (now out) ⌝ }
+    ensures { λ r. ⌜ Wrote (hexOf (now (bytes .entry))) (now (out .entry)) at (now (out .exit)) r ⌝ }
+{
+    let mut end = at;
+    let mut i = 0;
+    while i < bytes.len() {
+        let x = bytes[i];
+        out[end] = digit(x / 16);
+        out[end + 1] = digit(x % 16);
+        end += 2;
+        i += 1;
+    }
+    end
+}
