@@ -1,0 +1,43 @@
+-- `call` is safe: what each call is lent keeps its length. Assumes nothing.
+use native.Mathlib.Omega.{arith}
+use Rattle.test_calls.proofs.memory.call.Statement.{statement}
+use Rattle.test_calls.proofs.memory.call.Tie as tie
+
+pub call-spec : {M : Type 1} → statement M
+call-spec =
+    tie.close
+    (tie.spec
+    (λ c κs. tt)
+    (λ c κs. tt)
+    (λ c κs. tt)
+    (λ c κs. tt)
+    (λ c κs. tt)
+    (λ c κs. tt)
+    (λ c κs. tt)
+    (λ c. tt)
+    (λ c. tt)
+    (λ c. c .before .before .before .before .thompson-record-to-tree-pair .kept .1 .0)
+    (λ c. c .before .before .before .before .thompson-record-to-tree-pair .kept .1 .1 .0)
+    (λ c. tt)
+    (λ c. c .before .before .thompson-record-to-word .kept .1 .0)
+    (λ c. tt)
+    (λ c. c .before .before .before .before .tables .kept .1 .0)
+    (λ c. c .before .before .before .before .tables .kept .1 .1 .0)
+    (λ c. tt)
+    (λ c. c .before .before .before .before .before .before .thompson-word-to-record .kept .1 .0)
+    (λ c. c .before .before .before .before .before .before .thompson-word-to-record .kept .1 .1 .0)
+    (λ c. c .before .before .before .before .before .before .thompson-word-to-record .kept .1 .1 .1 .0)
+    (λ c. tt)
+    (λ c. c .before .before .before .before .before .before .before .before .before .before .before .before
+    .thompson-same-element .kept .1 .0)
+    (λ c. c .before .before .before .before .before .before .before .before .before .before .before .before
+    .thompson-same-element .kept .1 .1 .0)
+    (λ c. c .before .before .before .before .before .before .before .before .before .before .before .before
+    .thompson-same-element .kept .1 .1 .1 .0)
+    (λ c. c .before .before .before .before .before .before .before .before .before .before .before .before
+    .thompson-same-element .kept .1 .1 .1 .1 .1 .0)
+    (λ c. c .before .before .before .before .before .before .before .before .before .before .before .before
+    .thompson-same-element .kept .1 .1 .1 .1 .1 .1 .0)
+    (λ c. c .before .before .before .before .before .before .before .before .before .before .before .before
+    .thompson-same-element .kept .1 .1 .1 .1 .1 .1 .1 .0)
+    (λ c. tt))
