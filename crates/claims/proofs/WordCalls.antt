@@ -2,8 +2,7 @@
 use mathlib.Core.Path.{_≡_, sym, ap, ap₂, _∙_}
 use mathlib.Core.List.{List}
 use mathlib.Core.Logic.{_↔_}
-use Prim.Native.Nat.{ℕ, _+_, _<_, _≤_}
-use native.Mathlib.Decide.{decLe}
+use Prim.Native.Nat.{ℕ, _+_, _≤_}
 use native.Mathlib.Omega.{arith}
 use lib.ListN.{length, take, drop, getD, length-take}
 use lib.Seq.{drop-at}
@@ -18,12 +17,12 @@ use Rattle.group.specs.Products.{formOf}
 use Rattle.group.specs.Limits.{limit}
 use Rattle.group.proofs.Bytes.{read-length}
 use Rattle.group.proofs.Reduced.{form-canonical, form-reduced, form-trimmed}
-use Rattle.group.proofs.Sizes.{form-sum, form-index}
+use Rattle.group.proofs.Sizes.{form-sum}
 use Rattle.group.proofs.Theorems.{form-map, forms↔joined}
 use Rattle.refusals.specs.Outcomes.{Outcome, accepted, refused, replyOf}
 use Rattle.refusals.specs.declared.Reply.{Reply}
 use Rattle.refusals.proofs.Outcomes.{accepted-refused}
-use Rattle.records.specs.Format.{encode, Within}
+use Rattle.records.specs.Format.{encode}
 use Rattle.records.specs.Reading.{decode}
 use Rattle.records.proofs.WordForms.{form-within}
 use Rattle.records.proofs.ReadBack.{encode-injective}

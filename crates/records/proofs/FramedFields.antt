@@ -12,7 +12,6 @@ use Rattle.records.specs.declared.frame.Frame.the-variants.{Exact, Broke
 use Rattle.records.specs.Format.{bTag, aTag, baseSize}
 use Rattle.records.specs.Reading.{bLength, aLength}
 use Rattle.records.specs.inside.Steps.{frameOf}
-use Rattle.records.proofs.Framing.{Frame}
 use Rattle.records.proofs.Frames.{frame-exact, frame-broken}
 
 -- A field that stands is not missing.

@@ -4,23 +4,20 @@ use mathlib.Core.Path.{_≡_, refl, sym, ap, ap₂, subst, _∙_}
 use mathlib.Core.Bool.{Bool, true, false, not, cond, true≢false}
 use mathlib.Core.List.{List, _∷_}
 use mathlib.Core.Option.{Option, none, some}
-use Prim.Native.Nat.{ℕ, zero, suc, _+_, _*_, _<_, _≤_}
+use Prim.Native.Nat.{ℕ, zero, suc, _+_, _<_, _≤_}
 use native.Mathlib.Numerals.{add-one}
 use native.Mathlib.Omega.{arith}
-use lib.Dec.{eqb, ltb}
-use lib.ListN.{length}
-use borrow.Author.Tests.{ltb-true, ltb-false, eqb-true, eqb-false, lt-ltb, eq-eqb, ne-eqb}
-use Rattle.group.specs.Forms.{Form}
+use lib.Dec.{ltb}
+use borrow.Author.Tests.{ltb-true, ltb-false, eq-eqb, ne-eqb}
 use Rattle.group.specs.Limits.{limit}
-use Rattle.refusals.specs.Outcomes.{Outcome, accepted, refused, dropValue}
+use Rattle.refusals.specs.Outcomes.{accepted, refused, dropValue}
 use Rattle.fields.specs.Fields.{twoAt}
 use Rattle.records.specs.declared.walk.Place.{Place}
 use Rattle.records.specs.Format.{Power, power}
 use Rattle.records.specs.Reading.{formOfPowers, findBreak}
 use Rattle.records.specs.inside.Steps.{Proper}
-use Rattle.records.specs.inside.Walking.{leftAt, behind, passedBy, starts, startsAt, breaksAt, Inside, Walkable}
+use Rattle.records.specs.inside.Walking.{leftAt, behind, passedBy, startsAt, breaksAt, Inside, Walkable}
 use Rattle.records.proofs.WrittenEntries.{entries-next}
-use Rattle.records.proofs.ProperPowers.{proper-lower}
 use Rattle.records.proofs.Merging.{Breaks, Merged, merge-left, merge-right, merge-both, next-b, next-a, merge-here}
 use Rattle.records.proofs.Merging.{start-next, no-start, merge-no-b, merge-no-a}
 use Rattle.records.proofs.MergedForms.{foundIn, merged-found}

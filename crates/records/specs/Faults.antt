@@ -7,7 +7,7 @@
 use mathlib.Core.Path.{_≡_}
 use mathlib.Core.List.{List, [], _∷_, _++_}
 use Prim.Native.Nat.{ℕ, _+_, _%_, _<_, _≤_}
-use lib.ListN.{length, getD}
+use lib.ListN.{length}
 use Rattle.group.specs.Forms.{Side, bSide, aSide, Form}
 use Rattle.group.specs.Limits.{limit}
 use Rattle.group.specs.Reducing.{Applies}

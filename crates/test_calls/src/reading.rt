@@ -47,19 +47,14 @@ fn digits(line: &[u8], at: &mut usize, out: &mut [u8], k: usize) -> usize {
     end
 }
 
-// How many times the digits of a part stand there: the number behind a star, or once.
-fn times(line: &[u8], at: &mut usize) -> usize {
-    if byte(line, *at) == b'*' {
-        return number(line, at);
-    }
-    1
-}
-
-// A part: digits, and how many times they stand there.
+// A part: digits, and behind a star how many times they stand there.
 fn part(line: &[u8], at: &mut usize, out: &mut [u8], k: usize) -> usize {
     let start = *at;
     let mut end = digits(line, at, out, k);
-    let mut left = times(line, at);
+    let mut left = 1;
+    if byte(line, *at) == b'*' {
+        left = number(line, at);
+    }
     while left > 1 {
         let mut again = start;
         end = digits(line, &mut again, out, end);

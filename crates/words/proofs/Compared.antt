@@ -1,13 +1,11 @@
 -- Two words: the answer and what is left, in each case. Assumes nothing.
 use mathlib.Core.Path.{_≡_, refl, sym, ap, ap₂, subst, _∙_}
-use mathlib.Core.Bool.{Bool, true, false, cond}
-use mathlib.Core.List.{List, [], _∷_}
+use mathlib.Core.Bool.{Bool, true, false}
+use mathlib.Core.List.{List}
 use Prim.Native.Nat.{ℕ, _+_, _≤_}
 use native.Mathlib.Omega.{arith}
 use lib.ListN.{length, take, replicate, length-replicate, length-take}
 use lib.Seq.{sets-eq, take-at}
-use lib.Dec.{eqb}
-use borrow.Author.Tests.{eqb-true, eq-eqb}
 use Rattle.group.specs.Letters.{Word}
 use Rattle.group.specs.Forms.{bSide, aSide}
 use Rattle.group.specs.Products.{formOf}

@@ -1,6 +1,5 @@
 -- `read_few` meets its contract: the clause, then the tables. Assumes nothing.
 use mathlib.Core.Path.{ap, _∙_}
-use native.Mathlib.Omega.{arith}
 use borrow.Author.Needs.{needs}
 use Rattle.group.specs.Forms.{bSide, aSide}
 use Rattle.refusals.specs.Outcomes.{verdictOf}

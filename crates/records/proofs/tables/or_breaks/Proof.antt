@@ -1,5 +1,5 @@
 -- `or_breaks` meets its contract. Assumes nothing.
-use mathlib.Core.Path.{_≡_, sym, ap, _∙_}
+use mathlib.Core.Path.{sym, ap, _∙_}
 use mathlib.Core.Bool.{Bool, true, cond}
 use borrow.Author.Needs.{needs}
 use Rattle.records.proofs.tables.or_breaks.Statement.{statement}

@@ -1,5 +1,4 @@
 -- `broken` meets its contract. Assumes nothing.
-use native.Mathlib.Omega.{arith}
 use borrow.Author.Needs.{needs}
 use Rattle.records.proofs.Walks.{breaks-other, breaks-p, breaks-q}
 use Rattle.records.proofs.walk.broken.Statement.{statement}

@@ -1,10 +1,9 @@
 -- `pass` meets its contract. Assumes nothing.
-use mathlib.Core.Path.{_≡_, sym, ap}
+use mathlib.Core.Path.{sym, ap}
 use mathlib.Core.Bool.{Bool, cond}
 use native.Mathlib.Omega.{arith}
 use borrow.Author.Needs.{needs}
 use borrow.Author.Tests.{lt-ltb, le-ltb}
-use Rattle.records.specs.declared.walk.Place.{Place}
 use Rattle.records.specs.inside.Walking.{behind}
 use Rattle.records.proofs.walk.pass.Statement.{statement}
 use Rattle.records.proofs.walk.pass.Tie as tie

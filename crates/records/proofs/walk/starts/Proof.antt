@@ -1,11 +1,9 @@
 -- `starts` meets its contract: the first of the entries that are left. Assumes nothing.
-use mathlib.Core.Path.{_≡_, sym, ap, ap₂, _∙_}
-use mathlib.Core.List.{List}
+use mathlib.Core.Path.{sym, ap, _∙_}
 use Prim.Native.Nat.{ℕ}
 use native.Mathlib.Omega.{arith}
 use lib.Dec.{eqb}
 use borrow.Author.Needs.{needs}
-use Rattle.records.specs.Format.{Power}
 use Rattle.records.specs.inside.Walking.{starts}
 use Rattle.records.proofs.WrittenEntries.{entries-next}
 use Rattle.records.proofs.walk.starts.Statement.{statement}

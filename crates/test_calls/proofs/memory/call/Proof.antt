@@ -1,5 +1,4 @@
 -- `call` is safe: what each call is lent keeps its length. Assumes nothing.
-use native.Mathlib.Omega.{arith}
 use Rattle.test_calls.proofs.memory.call.Statement.{statement}
 use Rattle.test_calls.proofs.memory.call.Tie as tie
 

@@ -13,6 +13,7 @@ part-spec =
     (λ line at out₀ k start end₀ left₀ out end left. left)
     (λ c κs. tt)
     (λ c κs. tt)
+    (λ c κs. tt)
     (λ c. omega arith)
     (λ c κs. tt)
     (λ c. omega arith)
