@@ -20,7 +20,8 @@ use Rattle.group.proofs.Reduced.{form-reduced}
 use Rattle.group.proofs.Theorems.{joined-map}
 use Rattle.group.proofs.NoStep.{reduced-no-step}
 use Rattle.refusals.specs.Outcomes.{Outcome, accepted, refused, valued, then}
-use Rattle.records.specs.Reading.{findBreak, reducedForm, decode}
+use Rattle.records.specs.Reading.{reducedForm, decode}
+use Rattle.clause.specs.Clause.{findBreak}
 use Rattle.records.specs.Faults.{formRead}
 use Rattle.records.proofs.ReadBack.{form-encode}
 use Rattle.trees.specs.Pairs.{caretsOf}

@@ -16,7 +16,8 @@ use Rattle.records.specs.declared.frame.Frame.the-variants.{Exact, Broke
 use Rattle.records.specs.Reading.{bLength, aLength, aStart, frames, bPowers, aPowers, exponentAt, scan}
 use Rattle.records.specs.Reading.{reducedForm, readEntries, decode}
 use Rattle.records.specs.Faults.{formRead}
-use Rattle.records.specs.inside.Steps.{frameOf, scanBoth, Shown}
+use Rattle.records.specs.inside.Steps.{frameOf, scanBoth}
+use Rattle.clause.specs.inside.Tables.{Shown}
 use Rattle.refusals.proofs.Outcomes.{drop-accepted, drop-refused}
 use Rattle.records.proofs.ReadBack.{sidePowers}
 use Rattle.group.proofs.UpTo.{upTo-below, upTo-behind}

@@ -13,7 +13,7 @@ use borrow.Author.Tests.{ltb-true, eqb-true, lt-ltb, eq-eqb}
 use Rattle.group.specs.Forms.{Side, bSide, aSide, Form, exponent}
 use Rattle.group.specs.Reducing.{Occurs, Reduced, Applies}
 use Rattle.refusals.specs.Outcomes.{accepted, refused}
-use Rattle.records.specs.Reading.{breaks, findBreak}
+use Rattle.clause.specs.Clause.{breaks, findBreak}
 use Rattle.records.proofs.Tests.{both-left, both-right, true-both}
 
 on-sides : (P : Side → Type 0) → P bSide → P aSide → (s : Side) → P s

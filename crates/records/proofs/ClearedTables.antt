@@ -22,7 +22,8 @@ use Rattle.refusals.proofs.Outcomes.{drop-accepted, drop-refused}
 use Rattle.records.specs.Format.{Within}
 use Rattle.records.specs.Reading.{decode}
 use Rattle.fields.specs.Fields.{Bytes}
-use Rattle.records.specs.inside.Contracts.{fits, tableRead, Decoded}
+use Rattle.records.specs.inside.Contracts.{Decoded}
+use Rattle.clause.specs.inside.Tables.{fits, tableRead}
 use Rattle.records.proofs.Accepted.{decode-form}
 
 -- A table of n zeros with an entry for every index up to the limit.

@@ -28,7 +28,6 @@ pub mod FramedFields
 pub mod Scanning
 pub mod Fields
 pub mod Placing
-pub mod Breaks
 -- the walk over the entries
 pub mod Merging
 pub mod MergedForms

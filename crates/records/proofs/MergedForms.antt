@@ -11,7 +11,8 @@ use Rattle.group.specs.Forms.{Side, bSide, aSide, Form, exponent}
 use Rattle.group.specs.Reducing.{Applies}
 use Rattle.refusals.specs.Outcomes.{Outcome, accepted, refused}
 use Rattle.records.specs.Format.{Power}
-use Rattle.records.specs.Reading.{exponentAt, formOfPowers, findBreak}
+use Rattle.records.specs.Reading.{exponentAt, formOfPowers}
+use Rattle.clause.specs.Clause.{findBreak}
 use Rattle.records.specs.inside.Steps.{Proper}
 use Rattle.records.proofs.ProperPowers.{at-above}
 use Rattle.records.proofs.ReadBack.{form-exponent}

@@ -1,7 +1,7 @@
 -- What the tests of a record say: `both`, and a choice by a test. Assumes nothing.
 use mathlib.Core.Path.{_≡_, refl, sym}
 use mathlib.Core.Bool.{Bool, true, false, cond, true≢false}
-use Rattle.records.specs.Reading.{both}
+use Rattle.clause.specs.Clause.{both}
 
 pub both-left : (p q : Bool) → both p q ≡ true → p ≡ true
 both-left true q e = refl

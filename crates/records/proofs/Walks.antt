@@ -14,7 +14,8 @@ use Rattle.refusals.specs.Outcomes.{accepted, refused, dropValue}
 use Rattle.fields.specs.Fields.{twoAt}
 use Rattle.records.specs.declared.walk.Place.{Place}
 use Rattle.records.specs.Format.{Power, power}
-use Rattle.records.specs.Reading.{formOfPowers, findBreak}
+use Rattle.records.specs.Reading.{formOfPowers}
+use Rattle.clause.specs.Clause.{findBreak}
 use Rattle.records.specs.inside.Steps.{Proper}
 use Rattle.records.specs.inside.Walking.{leftAt, behind, passedBy, startsAt, breaksAt, Inside, Walkable}
 use Rattle.records.proofs.WrittenEntries.{entries-next}

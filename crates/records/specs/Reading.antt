@@ -1,17 +1,18 @@
 -- The reading of a record: its form, or refusal 3, 4 or 5 with the place (01, 'The record', 'Who caused the refusal').
 --     frames s        the two fields frame the bytes exactly     scan     the entries of a field, in order
---     findBreak       the reduced form's clause                  decode   the whole
+--     reducedForm s   the form, or refusal 5                      decode   the whole
 -- This is how a record is read; that it is the paper's sentences is claimed apart from this. Assumes nothing.
 use mathlib.Core.Bool.{Bool, true, false, cond}
 use mathlib.Core.List.{List, [], _∷_}
 use Prim.Native.Nat.{ℕ, zero, suc, _+_, _/_, _%_}
 use lib.ListN.{length, getD}
 use lib.Dec.{eqb, ltb}
-use Rattle.group.specs.Forms.{bSide, aSide, Form, exponent}
+use Rattle.group.specs.Forms.{Form, exponent}
 use Rattle.group.specs.UpTo.{formUpTo}
 use Rattle.group.specs.Limits.{limit}
 use Rattle.refusals.specs.Outcomes.{Outcome, accepted, refused, then}
 use Rattle.fields.specs.Fields.{twoAt}
+use Rattle.clause.specs.Clause.{both, findBreak}
 use Rattle.records.specs.Format.{Power, power, bTag, aTag, baseSize}
 
 -- The lengths of the two bodies, and where the second begins.
@@ -23,10 +24,6 @@ aStart s = baseSize + bLength s
 
 abbrev pub aLength : List ℕ → ℕ
 aLength s = twoAt s (4 + bLength s)
-
--- Both of two tests.
-abbrev pub both : Bool → Bool → Bool
-both p q = cond p q false
 
 -- Both tags stand where they should, the second body ends where the bytes end, and neither body ends amid an entry.
 abbrev pub fieldsFit : List ℕ → Bool
@@ -70,18 +67,6 @@ exponentAt (power j e ∷ ps) i = cond (eqb j i) e (exponentAt ps i)
 -- The form of two sides' powers, none of whose indices is above the limit.
 abbrev pub formOfPowers : List Power → List Power → Form
 formOfPowers p q = formUpTo (suc limit) (exponentAt p) (exponentAt q)
-
--- The index breaks the reduced form's clause: both exponents are above 0, and both of the next index are 0.
-abbrev pub breaks : Form → ℕ → Bool
-breaks f i =
-    both (ltb 0 (exponent bSide f i))
-    (both (ltb 0 (exponent aSide f i))
-    (both (eqb (exponent bSide f (suc i)) 0) (eqb (exponent aSide f (suc i)) 0)))
-
--- The form, or refusal 5 at the first of k indices from i on that breaks the clause.
-unfoldable pub findBreak : Form → (i k : ℕ) → Outcome Form
-findBreak f i zero = accepted f
-findBreak f i (suc k) = cond (breaks f i) (refused 5 i) (findBreak f (suc i) k)
 
 -- The form of bytes whose fields frame them and whose entries are right, or refusal 5.
 abbrev pub reducedForm : List ℕ → Outcome Form

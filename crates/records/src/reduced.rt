@@ -1,13 +1,11 @@
 // The reduced form's clause, and the tables, of a record whose entries are right. A record of few entries is walked; the
 // exponents of one with many are put into tables, since a walk mispredicts its branches there.
 ghost use mathlib.Core.Path.{_≡_};
-ghost use Prim.Native.Nat.{suc, _<_};
-ghost use lib.ListN.{length};
-ghost use Rattle.group.specs.Limits.{limit};
+ghost use Prim.Native.Nat.{_<_};
 ghost use Rattle.refusals.specs.Outcomes.{verdictOf, dropValue};
 ghost use Rattle.records.specs.Reading.{reducedForm};
 ghost use Rattle.records.specs.inside.Steps.{Ordered};
-ghost use Rattle.records.specs.inside.Contracts.{ReadInto, HandedOver};
+ghost use Rattle.clause.specs.inside.Tables.{ReadInto};
 use crate::BASE_SIZE;
 use crate::tables;
 use crate::walk::Place;
@@ -41,10 +39,10 @@ fn check_many(s: &[u8], b_length: usize, a_length: usize) -> Verdict
     requires { ⌜ Ordered (now s) «b_length» «a_length» ⌝ }
     ensures { λ r. ⌜ verdictOf r ≡ dropValue (reducedForm (now (s .entry))) ⌝ }
 {
-    let mut b = [0u16; LIMIT + 2];
-    let mut a = [0u16; LIMIT + 2];
+    let mut b = [0u16; clause::TABLE];
+    let mut a = [0u16; clause::TABLE];
     tables::fill_fields(s, b_length, a_length, &mut b, &mut a);
-    tables::check_tables(&b, &a)
+    clause::check_tables(&b, &a)
 }
 
 // Whether the form is reduced.
@@ -84,27 +82,6 @@ fn read_few(
     Verdict::Accepted
 }
 
-// The exponents in two tables, tested, and copied to the two that are lent.
-fn hand_over(b: &[u16], a: &[u16], b_table: &mut [u16], a_table: &mut [u16]) -> Verdict
-    requires { ⌜ (suc limit < length (now b)) × (suc limit < length (now a)) ⌝ }
-    ensures { λ r. ⌜ HandedOver (now (b .entry)) (now (a .entry)) (now («b_table» .entry)) (now («a_table» .entry))
-        (now («b_table» .exit)) (now («a_table» .exit)) r ⌝ }
-{
-    let verdict = tables::check_tables(b, a);
-    let Verdict::Accepted = verdict else {
-        return verdict;
-    };
-    if b_table.len() < LIMIT + 1 {
-        return Verdict::Refused(Refusal::ShortTable);
-    }
-    if a_table.len() < LIMIT + 1 {
-        return Verdict::Refused(Refusal::ShortTable);
-    }
-    tables::copy_table(b, b_table);
-    tables::copy_table(a, a_table);
-    Verdict::Accepted
-}
-
 // The tables of a record with many entries: own ones are filled once, tested and copied.
 fn read_many(
     s: &[u8],
@@ -117,10 +94,10 @@ fn read_many(
     ensures { λ r. ⌜ ReadInto (reducedForm (now (s .entry))) (now («b_table» .entry)) (now («a_table» .entry))
         (now («b_table» .exit)) (now («a_table» .exit)) r ⌝ }
 {
-    let mut b = [0u16; LIMIT + 2];
-    let mut a = [0u16; LIMIT + 2];
+    let mut b = [0u16; clause::TABLE];
+    let mut a = [0u16; clause::TABLE];
     tables::fill_fields(s, b_length, a_length, &mut b, &mut a);
-    hand_over(&b, &a, b_table, a_table)
+    clause::hand_over(&b, &a, b_table, a_table)
 }
 
 // Whether the form is reduced, and then its exponents in the tables: 5, then 6.

@@ -6,7 +6,7 @@ use borrow.Author.Needs.{needs}
 use Rattle.refusals.specs.Outcomes.{verdictOf}
 use Rattle.records.proofs.Fields.{fields-ordered}
 use Rattle.records.proofs.Checks.{decode-broken, decode-stops, decode-goes-on}
-use Rattle.records.proofs.Decodings.{into-refused, into-same}
+use Rattle.clause.proofs.Handing.{into-refused, into-same}
 use Rattle.records.proofs.record_to_tables.Statement.{statement}
 use Rattle.records.proofs.record_to_tables.Tie as tie
 

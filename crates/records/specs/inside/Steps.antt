@@ -1,22 +1,19 @@
 -- What the steps of the reading promise one another inside this crate. Assumes nothing.
 use mathlib.Core.Path.{_≡_}
-use mathlib.Core.Bool.{Bool, cond}
+use mathlib.Core.Bool.{cond}
 use mathlib.Core.List.{List, [], _∷_}
-use Prim.Native.Nat.{ℕ, suc, _-_, _≤_, _<_}
-use lib.ListN.{getD, set}
-use lib.Dec.{eqb, ltb}
-use Rattle.group.specs.Forms.{bSide, aSide, Form, exponent}
+use Prim.Native.Nat.{ℕ, suc, _≤_, _<_}
+use lib.ListN.{set}
 use Rattle.lists.specs.Tables.{filled}
 use Rattle.group.specs.Limits.{limit}
-use Rattle.refusals.specs.Outcomes.{Outcome, accepted, refused, then, verdictOf, dropValue}
-use Rattle.refusals.specs.declared.Verdict.{Verdict}
+use Rattle.refusals.specs.Outcomes.{Outcome, accepted, refused, then}
 use Rattle.records.specs.declared.frame.Frame.{Frame}
 use Rattle.records.specs.declared.frame.Frame.the-variants.{Exact, Broken}
 use Rattle.records.specs.declared.reading.Scan.{Scan}
 use Rattle.records.specs.declared.reading.Scan.the-variants.{Sum, Fault}
 use Rattle.records.specs.Format.{Power, power}
-use Rattle.records.specs.Reading.{bLength, aLength, aStart, frames, both, scan}
-use Rattle.records.specs.Reading.{bPowers, aPowers, exponentAt, findBreak}
+use Rattle.records.specs.Reading.{bLength, aLength, aStart, frames, scan}
+use Rattle.records.specs.Reading.{bPowers, aPowers, exponentAt}
 
 -- The lengths of the bodies where the fields frame the bytes.
 abbrev pub frameOf : List ℕ → Frame
@@ -46,22 +43,6 @@ pub record Ordered (s : List ℕ) (b a : ℕ) : Type 0 where
 abbrev pub placePowers : List Power → List ℕ → List ℕ
 placePowers [] t = t
 placePowers (power i e ∷ ps) t = placePowers ps (set t i e)
-
--- The test of the reduced form's clause, on the exponents of an index and the next.
-abbrev pub isBreak : (b a b′ a′ : ℕ) → Bool
-isBreak b a b′ a′ = both (ltb 0 b) (both (ltb 0 a) (both (eqb b′ 0) (eqb a′ 0)))
-
--- Two tables show the exponents of a form, up to one index above the limit.
-abbrev pub Shown : Form → List ℕ → List ℕ → Type 0
-Shown f b a = (i : ℕ) → i ≤ suc limit → (getD b i 0 ≡ exponent bSide f i) × (getD a i 0 ≡ exponent aSide f i)
-
--- The clause was tested for each form that the tables show.
-abbrev pub BreakFound : List ℕ → List ℕ → Verdict → Type 0
-BreakFound b a r = (f : Form) → Shown f b a → verdictOf r ≡ dropValue (findBreak f 0 (suc limit))
-
--- No index below i breaks the clause, of any form that the tables show.
-pub record Unbroken (b a : List ℕ) (i : ℕ) : Type 0 where
-  pub goes-on : (f : Form) → Shown f b a → findBreak f i (suc limit - i) ≡ findBreak f 0 (suc limit)
 
 -- Both tables hold the exponents of the fields by index, up to the limit; everything beyond is unchanged.
 pub record FieldsFilled (s b a b′ a′ : List ℕ) : Type 0 where

@@ -12,26 +12,33 @@ use Rattle.records.proofs.FramedFields.{framed-not-ended, framed-b-brok
 use Rattle.records.proofs.frame.read_frame.Statement.{statement}
 use Rattle.records.proofs.frame.read_frame.Tie as tie
 
+-- The entry, seen from where the first field was read, and that place, seen from where the second was.
+abbrev start : tie.After-first → tie.Start
+start c = c .before .before .before .before
+
+abbrev behind : tie.After-second → tie.After-first
+behind c = c .before .before .before .before
+
 -- The first field stands, and the second behind it.
-first : (c : tie.After-first) → fieldAt (c .before .before .before .before .args .«record» .now) 0 bTag ≡ Body (c .first .given .0 .0)
+first : (c : tie.After-first) → fieldAt (start c .args .«record» .now) 0 bTag ≡ Body (c .first .given .0 .0)
 first c = sym (c .before .before .read-field .ensures) ∙ c .first .given .1
 
 second : (c : tie.After-second)
-    → fieldAt (c .before .before .before .before .before .before .before .before .args .«record» .now)
-    (headSize + c .before .before .before .before .first .given .0 .0) aTag ≡ Body (c .second .given .0 .0)
+    → fieldAt (start (behind c) .args .«record» .now) (headSize + behind c .first .given .0 .0) aTag
+    ≡ Body (c .second .given .0 .0)
 second c = sym (c .before .before .read-field2 .ensures) ∙ c .second .given .1
 
 -- Both end within the bytes.
 fits-first : (c : tie.After-first)
-    → headSize + c .first .given .0 .0 ≤ length (c .before .before .before .before .args .«record» .now)
-fits-first c = framed-first (c .before .before .before .before .args .«record» .now) (c .first .given .0 .0) (first c)
+    → headSize + c .first .given .0 .0 ≤ length (start c .args .«record» .now)
+fits-first c = framed-first (start c .args .«record» .now) (c .first .given .0 .0) (first c)
 
 fits-second : (c : tie.After-second)
-    → baseSize + c .before .before .before .before .first .given .0 .0 + c .second .given .0 .0
-    ≤ length (c .before .before .before .before .before .before .before .before .args .«record» .now)
+    → baseSize + behind c .first .given .0 .0 + c .second .given .0 .0
+    ≤ length (start (behind c) .args .«record» .now)
 fits-second c =
-    let place = c .before .before .before .before in
-    framed-second (place .before .before .before .before .args .«record» .now) (place .first .given .0 .0) (first place)
+    let place = behind c in
+    framed-second (start place .args .«record» .now) (place .first .given .0 .0) (first place)
     (c .second .given .0 .0) (second c)
 
 read-field-requires : tie.Need-read-field-requires
@@ -64,7 +71,7 @@ returns-2 : tie.Need-returns-2
 returns-2 c =
     let read = c .before .before in
     let place = read .before .before in
-    framed-no-second (place .before .before .before .before .args .«record» .now) (place .first .given .0 .0)
+    framed-no-second (start place .args .«record» .now) (place .first .given .0 .0)
     (first place) (sym (read .read-field2 .ensures) ∙ c .enum-told2 .given .1)
 
 add-if1 : tie.Need-add-if1
@@ -76,29 +83,29 @@ add-if1-2 c = omega (arith, fits-second (c .before))
 returns-3 : tie.Need-returns-3
 returns-3 c =
     let at-second = c .before .before in
-    let place = at-second .before .before .before .before in
-    framed-not-ended (place .before .before .before .before .args .«record» .now) (place .first .given .0 .0) (first place)
+    let place = behind at-second in
+    framed-not-ended (start place .args .«record» .now) (place .first .given .0 .0) (first place)
     (at-second .second .given .0 .0) (second at-second) (c .if1 .taken)
 
 returns-4 : tie.Need-returns-4
 returns-4 c =
     let at-second = c .before .before .before in
-    let place = at-second .before .before .before .before in
-    framed-b-broken (place .before .before .before .before .args .«record» .now) (place .first .given .0 .0) (first place)
+    let place = behind at-second in
+    framed-b-broken (start place .args .«record» .now) (place .first .given .0 .0) (first place)
     (at-second .second .given .0 .0) (second at-second) (c .if2 .taken)
 
 returns-5 : tie.Need-returns-5
 returns-5 c =
     let at-second = c .before .before .before .before in
-    let place = at-second .before .before .before .before in
-    framed-a-broken (place .before .before .before .before .args .«record» .now) (place .first .given .0 .0) (first place)
+    let place = behind at-second in
+    framed-a-broken (start place .args .«record» .now) (place .first .given .0 .0) (first place)
     (at-second .second .given .0 .0) (second at-second) (c .if3 .taken)
 
 returns-6 : tie.Need-returns-6
 returns-6 c =
     let at-second = c .before .before .before .before in
-    let place = at-second .before .before .before .before in
-    framed-exact (place .before .before .before .before .args .«record» .now) (place .first .given .0 .0) (first place)
+    let place = behind at-second in
+    framed-exact (start place .args .«record» .now) (place .first .given .0 .0) (first place)
     (at-second .second .given .0 .0) (second at-second)
     (c .before .before .if1 .left) (c .before .if2 .left) (c .if3 .left)
 

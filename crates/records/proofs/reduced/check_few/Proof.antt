@@ -5,7 +5,7 @@ use Rattle.group.specs.Forms.{Form}
 use Rattle.group.specs.Limits.{limit}
 use Prim.Native.Nat.{suc}
 use Rattle.refusals.specs.Outcomes.{dropValue}
-use Rattle.records.specs.Reading.{findBreak}
+use Rattle.clause.specs.Clause.{findBreak}
 use Rattle.records.proofs.Fields.{ordered-first, ordered-second, ordered-form}
 use Rattle.records.proofs.reduced.check_few.Statement.{statement}
 use Rattle.records.proofs.reduced.check_few.Tie as tie

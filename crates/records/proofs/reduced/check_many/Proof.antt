@@ -14,12 +14,6 @@ slice-aggregate-fill-fields-2 c = search needs
 fill-fields-requires : tie.Need-fill-fields-requires
 fill-fields-requires c κs = search needs
 
-slice-aggregate-check-tables : tie.Need-slice-aggregate-check-tables
-slice-aggregate-check-tables c = search needs
-
-slice-aggregate-check-tables-2 : tie.Need-slice-aggregate-check-tables-2
-slice-aggregate-check-tables-2 c = search needs
-
 check-tables-requires : tie.Need-check-tables-requires
 check-tables-requires c κs = search needs
 
@@ -37,7 +31,5 @@ check-many-spec =
     slice-aggregate-fill-fields
     slice-aggregate-fill-fields-2
     fill-fields-requires
-    slice-aggregate-check-tables
-    slice-aggregate-check-tables-2
     check-tables-requires
     returns)

@@ -4,8 +4,8 @@ use borrow.Author.Needs.{needs}
 use Rattle.group.specs.Forms.{bSide, aSide}
 use Rattle.refusals.specs.Outcomes.{verdictOf}
 use Rattle.records.specs.Faults.{formRead}
-use Rattle.records.proofs.Decodings.{into-refused, into-short-b, into-short-a, into-filled}
-use Rattle.records.proofs.Decodings.{find-refused, find-accepted, powers-filled}
+use Rattle.clause.proofs.Handing.{into-refused, into-short-b, into-short-a, into-filled, find-refused, find-accepted}
+use Rattle.records.proofs.Decodings.{powers-filled}
 use Rattle.records.proofs.reduced.read_few.Statement.{statement}
 use Rattle.records.proofs.reduced.read_few.Tie as tie
 

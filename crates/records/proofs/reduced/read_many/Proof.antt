@@ -14,12 +14,6 @@ slice-aggregate-fill-fields-2 c = search needs
 fill-fields-requires : tie.Need-fill-fields-requires
 fill-fields-requires c κs = search needs
 
-slice-aggregate-hand-over : tie.Need-slice-aggregate-hand-over
-slice-aggregate-hand-over c = search needs
-
-slice-aggregate-hand-over-2 : tie.Need-slice-aggregate-hand-over-2
-slice-aggregate-hand-over-2 c = search needs
-
 hand-over-requires : tie.Need-hand-over-requires
 hand-over-requires c κs = search needs
 
@@ -32,7 +26,8 @@ same-length-2 c = search needs
 returns : tie.Need-returns
 returns c =
     let given = c .before .before .before .before in
-    let fill = given .before .before .before .before .before .before .before in
+    let cleared = given .before .before .before .before in
+    let fill = cleared .before .before .before in
     let args = fill .before .before .before .before .before .before .args in
     let done = fill .fill-fields .ensures in
     given .hand-over .ensures (formRead (args .s .now)) (tables-show (args .s .now) _ _ (done .b-table) (done .a-table))
@@ -44,8 +39,6 @@ read-many-spec =
     slice-aggregate-fill-fields
     slice-aggregate-fill-fields-2
     fill-fields-requires
-    slice-aggregate-hand-over
-    slice-aggregate-hand-over-2
     hand-over-requires
     same-length
     same-length-2

@@ -2,6 +2,12 @@
 use Rattle.test_calls.proofs.memory.call.Statement.{statement}
 use Rattle.test_calls.proofs.memory.call.Tie as tie
 
+-- The call on two words, seen from where its answer is handed back.
+abbrev two-words : tie.After-slice-known20 → tie.After-thompson-same-element
+two-words c =
+    let at-slice-known17 = c .before .before .before .before .before .before in
+    at-slice-known17 .before .before .before .before .before .before
+
 pub call-spec : {M : Type 1} → statement M
 call-spec =
     tie.close
@@ -27,16 +33,10 @@ call-spec =
     (λ c. c .before .before .before .before .before .before .thompson-word-to-record .kept .1 .1 .0)
     (λ c. c .before .before .before .before .before .before .thompson-word-to-record .kept .1 .1 .1 .0)
     (λ c. tt)
-    (λ c. c .before .before .before .before .before .before .before .before .before .before .before .before
-    .thompson-same-element .kept .1 .0)
-    (λ c. c .before .before .before .before .before .before .before .before .before .before .before .before
-    .thompson-same-element .kept .1 .1 .0)
-    (λ c. c .before .before .before .before .before .before .before .before .before .before .before .before
-    .thompson-same-element .kept .1 .1 .1 .0)
-    (λ c. c .before .before .before .before .before .before .before .before .before .before .before .before
-    .thompson-same-element .kept .1 .1 .1 .1 .1 .0)
-    (λ c. c .before .before .before .before .before .before .before .before .before .before .before .before
-    .thompson-same-element .kept .1 .1 .1 .1 .1 .1 .0)
-    (λ c. c .before .before .before .before .before .before .before .before .before .before .before .before
-    .thompson-same-element .kept .1 .1 .1 .1 .1 .1 .1 .0)
+    (λ c. two-words c .thompson-same-element .kept .1 .0)
+    (λ c. two-words c .thompson-same-element .kept .1 .1 .0)
+    (λ c. two-words c .thompson-same-element .kept .1 .1 .1 .0)
+    (λ c. two-words c .thompson-same-element .kept .1 .1 .1 .1 .1 .0)
+    (λ c. two-words c .thompson-same-element .kept .1 .1 .1 .1 .1 .1 .0)
+    (λ c. two-words c .thompson-same-element .kept .1 .1 .1 .1 .1 .1 .1 .0)
     (λ c. tt))

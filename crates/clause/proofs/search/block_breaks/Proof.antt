@@ -2,9 +2,9 @@
 use mathlib.Core.Path.{_≡_, refl}
 use Prim.Native.Nat.{_+_, _-_, _≤_}
 use native.Mathlib.Omega.{arith}
-use Rattle.records.proofs.Breaks.{SeenSo, seen-none, seen-more, seen-same}
-use Rattle.records.proofs.tables.block_breaks.Statement.{statement}
-use Rattle.records.proofs.tables.block_breaks.Tie as tie
+use Rattle.clause.proofs.Breaks.{SeenSo, seen-none, seen-more, seen-same}
+use Rattle.clause.proofs.search.block_breaks.Statement.{statement}
+use Rattle.clause.proofs.search.block_breaks.Tie as tie
 
 abbrev Inv-loop : tie.InvT-loop
 Inv-loop b a start found₀ k₀ found k = (k ≤ 64) × SeenSo b a start found (start + k)

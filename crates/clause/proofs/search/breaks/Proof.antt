@@ -5,8 +5,8 @@ use Prim.Native.Nat.{ℕ}
 use native.Mathlib.Omega.{arith}
 use lib.Dec.{ltb}
 use borrow.Author.Tests.{lt-ltb, le-ltb, eq-eqb, ne-eqb}
-use Rattle.records.proofs.tables.breaks.Statement.{statement}
-use Rattle.records.proofs.tables.breaks.Tie as tie
+use Rattle.clause.proofs.search.breaks.Statement.{statement}
+use Rattle.clause.proofs.search.breaks.Tie as tie
 
 none : (x : ℕ) → x ≡ 0 → ltb 0 x ≡ false
 none x h = le-ltb 0 x (omega (arith, h))

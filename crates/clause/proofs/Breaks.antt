@@ -9,8 +9,8 @@ use lib.ListN.{getD}
 use Rattle.group.specs.Forms.{Form}
 use Rattle.group.specs.Limits.{limit}
 use Rattle.refusals.specs.Outcomes.{Outcome, accepted, refused, dropValue}
-use Rattle.records.specs.Reading.{breaks, findBreak}
-use Rattle.records.specs.inside.Steps.{isBreak, Shown, Unbroken}
+use Rattle.clause.specs.Clause.{breaks, findBreak}
+use Rattle.clause.specs.inside.Tables.{isBreak, Shown, Unbroken}
 
 -- The tables' test at an index is the form's.
 shown-break : (f : Form) (b a : List ℕ) (i : ℕ) → Shown f b a → i ≤ limit

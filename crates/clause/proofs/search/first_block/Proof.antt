@@ -2,10 +2,10 @@
 use Prim.Native.Nat.{suc, _-_, _≤_}
 use native.Mathlib.Omega.{arith}
 use Rattle.group.specs.Limits.{limit}
-use Rattle.records.specs.inside.Steps.{Unbroken}
-use Rattle.records.proofs.Breaks.{unbroken-none}
-use Rattle.records.proofs.tables.first_block.Statement.{statement}
-use Rattle.records.proofs.tables.first_block.Tie as tie
+use Rattle.clause.specs.inside.Tables.{Unbroken}
+use Rattle.clause.proofs.Breaks.{unbroken-none}
+use Rattle.clause.proofs.search.first_block.Statement.{statement}
+use Rattle.clause.proofs.search.first_block.Tie as tie
 
 abbrev Inv-loop : tie.InvT-loop
 Inv-loop b a start₀ start = (start ≤ suc limit) × Unbroken b a start

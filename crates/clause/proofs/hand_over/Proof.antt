@@ -3,10 +3,10 @@ use mathlib.Core.Path.{ap, _∙_}
 use borrow.Author.Needs.{needs}
 use Rattle.group.specs.Forms.{bSide, aSide}
 use Rattle.refusals.specs.Outcomes.{verdictOf}
-use Rattle.records.proofs.Decodings.{into-refused, into-short-b, into-short-a, into-filled}
-use Rattle.records.proofs.Decodings.{find-refused, find-accepted, copy-filled}
-use Rattle.records.proofs.reduced.hand_over.Statement.{statement}
-use Rattle.records.proofs.reduced.hand_over.Tie as tie
+use Rattle.clause.proofs.Handing.{into-refused, into-short-b, into-short-a, into-filled}
+use Rattle.clause.proofs.Handing.{find-refused, find-accepted, copy-filled}
+use Rattle.clause.proofs.hand_over.Statement.{statement}
+use Rattle.clause.proofs.hand_over.Tie as tie
 
 check-tables-requires : tie.Need-check-tables-requires
 check-tables-requires c κs = search needs
@@ -20,7 +20,8 @@ enum-told-2 c = search needs
 returns : tie.Need-returns
 returns c =
     let checked = c .before .before in
-    λ f h. into-refused _ (find-refused f _ (checked .check-tables .ensures f h) (c .enum-told2 .given .1)) (ap verdictOf (c .enum-told2 .given .1))
+    let told = c .enum-told2 .given .1 in
+    λ f h. into-refused _ (find-refused f _ (checked .check-tables .ensures f h) told) (ap verdictOf told)
 
 add-if1 : tie.Need-add-if1
 add-if1 c = search needs
@@ -29,7 +30,7 @@ returns-2 : tie.Need-returns-2
 returns-2 c =
     let told = c .before in
     let checked = told .before .before in
-    let args = checked .before .before .before .before .before .args in
+    let args = checked .before .before .before .args in
     λ f h. into-short-b (args .b-table .now) (args .a-table .now)
     (find-accepted f _ (checked .check-tables .ensures f h) (told .enum-told .given .1)) (c .if1 .taken)
 
@@ -40,9 +41,10 @@ returns-3 : tie.Need-returns-3
 returns-3 c =
     let told = c .before .before in
     let checked = told .before .before in
-    let args = checked .before .before .before .before .before .args in
+    let args = checked .before .before .before .args in
     λ f h. into-short-a (args .b-table .now) (args .a-table .now)
-    (find-accepted f _ (checked .check-tables .ensures f h) (told .enum-told .given .1)) (c .before .if1 .left) (c .if2 .taken)
+    (find-accepted f _ (checked .check-tables .ensures f h) (told .enum-told .given .1))
+    (c .before .if1 .left) (c .if2 .taken)
 
 copy-table-requires : tie.Need-copy-table-requires
 copy-table-requires c κs = search needs
@@ -59,13 +61,14 @@ same-length-2 c = search needs
 returns-4 : tie.Need-returns-4
 returns-4 c =
     let second = c .before .before in
-    let first = second .before .before .before .before in
-    let long = first .before .before in
+    let first = second .before .before .before .before .before in
+    let long = first .before .before .before in
     let told = long .before .before in
     let checked = told .before .before in
-    let args = checked .before .before .before .before .before .args in
+    let args = checked .before .before .before .args in
     λ f h. into-filled (args .b-table .now) (args .a-table .now)
-    (find-accepted f _ (checked .check-tables .ensures f h) (told .enum-told .given .1)) (long .before .if1 .left) (long .if2 .left)
+    (find-accepted f _ (checked .check-tables .ensures f h) (told .enum-told .given .1))
+    (long .before .if1 .left) (long .if2 .left)
     (first .copy-table .ensures ∙ copy-filled f bSide (args .b .now) (args .b-table .now) (λ i le. h i le .0))
     (second .copy-table2 .ensures ∙ copy-filled f aSide (args .a .now) (args .a-table .now) (λ i le. h i le .1))
 

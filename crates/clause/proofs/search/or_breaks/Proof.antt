@@ -2,8 +2,8 @@
 use mathlib.Core.Path.{sym, ap, _∙_}
 use mathlib.Core.Bool.{Bool, true, cond}
 use borrow.Author.Needs.{needs}
-use Rattle.records.proofs.tables.or_breaks.Statement.{statement}
-use Rattle.records.proofs.tables.or_breaks.Tie as tie
+use Rattle.clause.proofs.search.or_breaks.Statement.{statement}
+use Rattle.clause.proofs.search.or_breaks.Tie as tie
 
 breaks-requires : tie.Need-breaks-requires
 breaks-requires c κs = search needs

@@ -3,10 +3,10 @@ use mathlib.Core.Path.{sym, _∙_}
 use Prim.Native.Nat.{suc, _-_, _≤_}
 use native.Mathlib.Omega.{arith}
 use Rattle.group.specs.Limits.{limit}
-use Rattle.records.specs.inside.Steps.{Unbroken}
-use Rattle.records.proofs.Breaks.{break-here, break-later, break-nowhere}
-use Rattle.records.proofs.tables.first_break.Statement.{statement}
-use Rattle.records.proofs.tables.first_break.Tie as tie
+use Rattle.clause.specs.inside.Tables.{Unbroken}
+use Rattle.clause.proofs.Breaks.{break-here, break-later, break-nowhere}
+use Rattle.clause.proofs.search.first_break.Statement.{statement}
+use Rattle.clause.proofs.search.first_break.Tie as tie
 
 abbrev Inv-loop : tie.InvT-loop
 Inv-loop b a start i₀ i = (i ≤ suc limit) × Unbroken b a i

@@ -6,8 +6,8 @@ use lib.ListN.{length, getD, length-set}
 use Rattle.lists.specs.Tables.{filled}
 use Rattle.lists.proofs.Tables.{filled-none, filled-more}
 use Rattle.group.specs.Limits.{limit}
-use Rattle.records.proofs.tables.copy_table.Statement.{statement}
-use Rattle.records.proofs.tables.copy_table.Tie as tie
+use Rattle.clause.proofs.copy_table.Statement.{statement}
+use Rattle.clause.proofs.copy_table.Tie as tie
 
 abbrev Inv-loop : tie.InvT-loop
 Inv-loop from table₀ i₀ table i =

@@ -1,0 +1,3 @@
+-- Two tables of exponents.
+-- Inside: no claim reaches these definitions; a reader of the claims need not believe them.
+pub mod Tables
