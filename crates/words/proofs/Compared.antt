@@ -4,7 +4,7 @@ use mathlib.Core.Bool.{Bool, true, false}
 use mathlib.Core.List.{List}
 use Prim.Native.Nat.{ℕ, _+_, _≤_}
 use native.Mathlib.Omega.{arith}
-use lib.ListN.{length, take, replicate, length-replicate, length-take}
+use lib.ListN.{length, take, length-take}
 use lib.Seq.{sets-eq, take-at}
 use Rattle.group.specs.Letters.{Word}
 use Rattle.group.specs.Forms.{bSide, aSide}
@@ -20,10 +20,9 @@ use Rattle.refusals.specs.Outcomes.{Outcome, accepted, refused, dropValue, verd
 use Rattle.refusals.proofs.Outcomes.{accepted-same, drop-accepted, drop-refused}
 use Rattle.records.proofs.Lengths.{encode-size}
 use Rattle.forest.specs.Filling.{tableAfter}
-use Rattle.forest.specs.inside.Filling.{cells, room}
 use Rattle.words.specs.Recording.{encodeWord, countRecord, bufferAfter, Memory, judgedWith, Left}
 use Rattle.words.specs.Recording.{Recorded}
-use Rattle.words.specs.inside.Writing.{Accepts, Ready, WordWritten}
+use Rattle.words.specs.inside.Writing.{Accepts, WordWritten}
 use Rattle.lists.specs.SameBytes.{sameBytes}
 use Rattle.lists.proofs.SameBytes.{same-bytes, bytes-same}
 use Rattle.words.specs.Comparing.{decided, decisionOf, verdictBy, beside}
@@ -154,30 +153,6 @@ refused-recorded word m v r h e =
       result = sym (ap (λ (o : Outcome Word). countRecord o) so);
       leaves = left-kept (judgedWith word m) (numberOf r) (placeOf r) m so;
     }
-
--- An accepted word beside fresh scratch, and beside scratch that another word has used.
-pub scratch-ready : {word : List ℕ} {m : Memory} → Accepts word m
-    → Ready word m (replicate cells 0) (replicate cells 0) (replicate room 0)
-scratch-ready f = record {
-  accepts = f;
-  lefts-length = length-replicate {A = ℕ} cells 0;
-  rights-length = length-replicate {A = ℕ} cells 0;
-  stack-length = length-replicate {A = ℕ} room 0;
-}
-
-pub scratch-ready-again : {word : List ℕ} {m : Memory} {lefts rights stack : List ℕ} → Accepts word m
-    → length lefts ≡ length (replicate {A = ℕ} cells 0) → length rights ≡ length (replicate {A = ℕ} cells 0)
-    → length stack ≡ length (replicate {A = ℕ} room 0) → Ready word m lefts rights stack
-scratch-ready-again f p q r = record {
-  accepts = f;
-  lefts-length = p ∙ length-replicate {A = ℕ} cells 0;
-  rights-length = q ∙ length-replicate {A = ℕ} cells 0;
-  stack-length = r ∙ length-replicate {A = ℕ} room 0;
-}
-
-pub word-ready : (word : List ℕ) (m : Memory) (v : Verdict) → verdictOf v ≡ dropValue (judgedWith word m) → v ≡ Accepted
-    → Ready word m (replicate cells 0) (replicate cells 0) (replicate room 0)
-word-ready word m v h e = scratch-ready (verdict-accepts word m v h e)
 
 -- The record lies inside the buffer.
 pub record-inside : {word : List ℕ} {m m′ : Memory} {n : ℕ} → Accepts word m → WordWritten word m m′ n

@@ -3,10 +3,12 @@ ghost use mathlib.Core.Path.{_≡_};
 ghost use Prim.Native.Nat.{_≤_};
 ghost use lib.ListN.{length, take};
 ghost use Rattle.words.specs.Recording.{memory};
-ghost use Rattle.words.specs.inside.Writing.{bytesWritten, countLevels, Accepts, Ready, WordWritten};
+ghost use Rattle.words.specs.inside.Writing.{bytesWritten, countLevels, Accepts, WordWritten};
 ghost use Rattle.words.specs.inside.Writing.{SaysSame, TwoWritten};
 use encoding::Encoding;
+use forest::CELLS;
 use forest::Filling;
+use forest::ROOM;
 
 // The number of bytes of a record that was written.
 fn bytes_written(encoding: Encoding) -> usize
@@ -36,12 +38,11 @@ pub fn write_word(
     b_table: &mut [u16],
     a_table: &mut [u16],
     record: &mut [u8],
-    lefts: &mut [u16],
-    rights: &mut [u16],
-    stack: &mut [u16],
+    lefts: &mut [u16; CELLS],
+    rights: &mut [u16; CELLS],
+    stack: &mut [u16; ROOM],
 ) -> usize
-    requires { ⌜ Ready (now word) (memory (now «b_table») (now «a_table») (now «record»)) (now lefts) (now rights)
-        (now stack) ⌝ }
+    requires { ⌜ Accepts (now word) (memory (now «b_table») (now «a_table») (now «record»)) ⌝ }
     ensures { λ r. ⌜ WordWritten (now (word .entry))
         (memory (now («b_table» .entry)) (now («a_table» .entry)) (now («record» .entry)))
         (memory (now («b_table» .exit)) (now («a_table» .exit)) (now («record» .exit))) r ⌝ }
@@ -80,9 +81,9 @@ pub fn write_two(
         (memory (now («b_table2» .entry)) (now («a_table2» .entry)) (now (record2 .entry)))
         (memory (now («b_table2» .exit)) (now («a_table2» .exit)) (now (record2 .exit))) r ⌝ }
 {
-    let mut lefts = [0u16; forest::CELLS];
-    let mut rights = [0u16; forest::CELLS];
-    let mut stack = [0u16; forest::ROOM];
+    let mut lefts = [0u16; CELLS];
+    let mut rights = [0u16; CELLS];
+    let mut stack = [0u16; ROOM];
     let n = write_word(
         word1,
         b_table1,

@@ -1,6 +1,6 @@
 -- `word_to_record` meets its contract: the word is judged, and then written with scratch of its own. Assumes nothing.
 use Rattle.words.specs.Recording.{memory}
-use Rattle.words.proofs.Compared.{refused-recorded, word-ready}
+use Rattle.words.proofs.Compared.{refused-recorded, verdict-accepts}
 use borrow.Author.Needs.{needs}
 use Rattle.words.proofs.word_to_record.Statement.{statement}
 use Rattle.words.proofs.word_to_record.Tie as tie
@@ -22,22 +22,13 @@ returns c =
 enum-told : tie.Need-enum-told
 enum-told c = search needs
 
-slice-aggregate-write-word : tie.Need-slice-aggregate-write-word
-slice-aggregate-write-word c = search needs
-
-slice-aggregate-write-word-2 : tie.Need-slice-aggregate-write-word-2
-slice-aggregate-write-word-2 c = search needs
-
-slice-aggregate-write-word-3 : tie.Need-slice-aggregate-write-word-3
-slice-aggregate-write-word-3 c = search needs
-
 write-word-requires : tie.Need-write-word-requires
 write-word-requires c κs =
     let at-enum-told = c .before .before .before .before .before .before in
     let at-judge = at-enum-told .before .before in
     let args = at-judge .before .before .before .before .before .args in
     let lent = memory (args .b-table .now) (args .a-table .now) (args .«record» .now) in
-    word-ready (args .word .now) lent (at-judge .judge .result) (at-judge .judge .ensures)
+    verdict-accepts (args .word .now) lent (at-judge .judge .result) (at-judge .judge .ensures)
     (at-enum-told .enum-told .given .1)
 
 same-length : tie.Need-same-length
@@ -51,8 +42,7 @@ same-length-3 c = search needs
 
 returns-2 : tie.Need-returns-2
 returns-2 c =
-    let at-slice-known6 = c .before .before .before in
-    let written = at-slice-known6 .before .before .before .before .before .before .write-word .ensures in
+    let written = c .before .before .before .before .before .before .write-word .ensures in
     record { result = written .result; leaves = written .leaves }
 
 pub word-to-record-spec : {M : Type 1} → statement M
@@ -63,9 +53,6 @@ word-to-record-spec =
     enum-known-verdict
     returns
     enum-told
-    slice-aggregate-write-word
-    slice-aggregate-write-word-2
-    slice-aggregate-write-word-3
     write-word-requires
     same-length
     same-length-2

@@ -2,6 +2,8 @@
 use mathlib.Core.Path.{sym}
 use native.Mathlib.Omega.{arith}
 use lib.Seq.{length-take-le}
+use Rattle.words.specs.Recording.{memory}
+use Rattle.words.specs.inside.Writing.{Ready}
 use Rattle.words.proofs.Recorded.{word-fit, same-length as same-letters, engine-levels, word-written}
 use borrow.Author.Needs.{needs}
 use Rattle.words.proofs.writing.write_word.Statement.{statement}
@@ -9,15 +11,26 @@ use Rattle.words.proofs.writing.write_word.Tie as tie
 
 -- The engine's call, seen from where the number of its levels was read, and the entry before it.
 abbrev engine : tie.After-levels-read → tie.After-fill-tables
-engine c =
-    let at-slice-known9 = c .before .before .before .before .before in
-    at-slice-known9 .before .before .before .before .before .before
+engine c = c .before .before .before .before .before
 
 abbrev start : tie.After-fill-tables → tie.Start
 start c =
     let at-fill-tables-arg = c .before .before .before .before .before in
-    let at-slice-known3 = at-fill-tables-arg .before .before .before .before in
-    at-slice-known3 .before .before .before .before
+    at-fill-tables-arg .before .before .before .before .before
+
+-- The word is accepted, and the arrays are the engine's scratch.
+abbrev Scratched : tie.Start → Type 0
+Scratched s =
+    Ready (s .args .word .now) (memory (s .args .b-table .now) (s .args .a-table .now) (s .args .«record» .now))
+    (s .args .lefts .now) (s .args .rights .now) (s .args .stack .now)
+
+scratched : (c : tie.After-fill-tables) → Scratched (start c)
+scratched c = record {
+  accepts = start c .pre;
+  lefts-length = search needs;
+  rights-length = search needs;
+  stack-length = search needs;
+}
 
 fill-tables-requires : tie.Need-fill-tables-requires
 fill-tables-requires c κs = search needs
@@ -28,7 +41,7 @@ levels-read-requires c κs = search needs
 slice-reshare-prefix-write-record : tie.Need-slice-reshare-prefix-write-record
 slice-reshare-prefix-write-record c =
     let at-fill-tables = engine c in
-    let ready = start at-fill-tables .pre in
+    let ready = scratched at-fill-tables in
     omega (
       arith,
       word-fit ready .fit .b-long,
@@ -45,7 +58,7 @@ slice-reshare-prefix-write-record-2 : tie.Need-slice-reshare-prefix-write-record
 slice-reshare-prefix-write-record-2 c =
     let at-levels-read = c .before in
     let at-fill-tables = engine at-levels-read in
-    let ready = start at-fill-tables .pre in
+    let ready = scratched at-fill-tables in
     omega (
       arith,
       word-fit ready .fit .a-long,
@@ -73,21 +86,12 @@ same-length-2 c = search needs
 same-length-3 : tie.Need-same-length-3
 same-length-3 c = search needs
 
-same-length-4 : tie.Need-same-length-4
-same-length-4 c = search needs
-
-same-length-5 : tie.Need-same-length-5
-same-length-5 c = search needs
-
-same-length-6 : tie.Need-same-length-6
-same-length-6 c = search needs
-
 returns : tie.Need-returns
 returns c =
     let at-write-record = c .before .before .before in
     let at-levels-read = at-write-record .before .before .before .before in
     let at-fill-tables = engine at-levels-read in
-    let ready = start at-fill-tables .pre in
+    let ready = scratched at-fill-tables in
     let filled = at-fill-tables .fill-tables .ensures in
     let read = engine-levels ready filled in
     let count = at-levels-read .levels-read .ensures in
@@ -121,7 +125,4 @@ write-word-spec =
     same-length
     same-length-2
     same-length-3
-    same-length-4
-    same-length-5
-    same-length-6
     returns)
