@@ -36,7 +36,8 @@ pub field-stands : (s : List ℕ) (at tag n : ℕ) → Bytes s → fieldAt s at 
 field-stands s at tag n bytes e =
     drop-cons s at 0 (omega (arith, found .within))
     ∙ ap₂ (λ (x k : ℕ). x ∷ drop k s) (found .tagged) next
-    ∙ ap (λ (l : List ℕ). tag ∷ l) (two-written s (at + 1) (at + headSize) bytes (omega arith) (omega (arith, found .within)))
+    ∙ ap (λ (l : List ℕ). tag ∷ l)
+    (two-written s (at + 1) (at + headSize) bytes (omega arith) (omega (arith, found .within)))
     ∙ ap₂ (λ (k : ℕ) (l : List ℕ). tag ∷ (twoBytes k ++ l)) size parted
   where
     found : Found s at tag n

@@ -1,7 +1,7 @@
--- Numbers and fields in bytes (01, 'The record'): all numbers are unsigned, high byte first; a field is a one-byte tag, a
--- two-byte length, then that many bytes.
---     twoBytes x       the number x in two bytes             twoAt s at   the two-byte number at an offset of the bytes s
---     field tag body   the field of a body                   Bytes s      every element of s is a byte
+-- Numbers and fields in bytes (01, 'The record'): all numbers are unsigned, high byte first; a field is a one-byte tag,
+-- a two-byte length, then that many bytes.
+--     twoBytes x       the number x in two bytes           twoAt s at   the two-byte number at an offset of the bytes
+--     field tag body   the field of a body                 Bytes s      every element of s is a byte
 -- Assumes nothing.
 use mathlib.Core.List.{List, [], _∷_, _++_}
 use Prim.Native.Nat.{ℕ, _+_, _*_, _/_, _%_, _<_}

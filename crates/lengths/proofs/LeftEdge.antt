@@ -3,13 +3,13 @@ use mathlib.Core.Path.{_≡_, refl, sym, ap, _∙_, subst}
 use mathlib.Core.List.{List, [], _∷_}
 use Prim.Native.Nat.{ℕ, zero, suc, _+_, _-_, _<_, _≤_}
 use native.Mathlib.Omega.{arith}
-use lib.ListN.{length, drop, getD, set, length-set}
-use lib.Seq.{sets}
+use lib.ListN.{length, drop, getD, set}
+use lib.Seq.{sets, drop-set-lt}
 use Rattle.trees.specs.inside.ShapeReading.{Exact}
 use Rattle.lengths.specs.Classes.{Class, onLeft}
 use Rattle.lengths.specs.inside.Reading.{sideClasses, leftEdgeClasses, shapeClasses}
 use Rattle.lengths.specs.inside.Steps.{classBytes, leavesIn, leftCarets, Readable, Shaped}
-use Rattle.lengths.proofs.ReadSteps.{exact-leaves, exact-node, drop-node, exact-zero, exact-caret}
+use Rattle.lengths.proofs.ReadSteps.{exact-node, drop-node, exact-zero, exact-caret, over-read}
 
 -- Amid the carets in front of the first leaf: k of them are counted.
 pub record Edge (shape : List ℕ) (k : ℕ) : Type 0 where
@@ -83,12 +83,11 @@ edge-classes (suc zero ∷ s) (suc n) l k h x e = edge-classes s (suc (suc n)) (
 edge-classes (suc (suc b) ∷ s) n l k h x e = absurd x
 
 -- A tree with a caret: caret 0 has room, and the reading goes on from a side.
-module _ {shape classes : List ℕ} (r : Readable shape 0 1 0 classes) (lefts : ℕ)
-    (is : lefts ≡ leftCarets shape) where
-  pub no-carets : lefts ≤ 0 → classes ≡ sets classes 0 (classBytes (shapeClasses shape))
+module _ {shape : List ℕ} (r : Readable shape 0 1 0) (lefts : ℕ) (is : lefts ≡ leftCarets shape) where
+  pub no-carets : lefts ≤ 0 → shape ≡ sets shape 0 (classBytes (shapeClasses shape))
   no-carets h =
       let none : 0 ≡ leftCarets shape + 0 = omega arith in
-      sym (ap (λ (cs : List Class). sets classes 0 (classBytes cs)) (edge-classes shape 1 0 0 (omega arith) (r .exact)
+      sym (ap (λ (cs : List Class). sets shape 0 (classBytes cs)) (edge-classes shape 1 0 0 (omega arith) (r .exact)
       none))
 
   module _ (some : 0 < lefts) where
@@ -100,30 +99,27 @@ module _ {shape classes : List ℕ} (r : Readable shape 0 1 0 classes) (lefts : 
     leaves-behind : leavesIn shape ≡ suc (leavesIn (drop (lefts + 1) shape))
     leaves-behind = edge-leaves shape 1 (omega arith) (r .exact) ∙ sym (ap (λ (s : List ℕ). suc (leavesIn s)) behind)
 
-    pub side-ready : Readable shape (lefts + 1) (suc (lefts - 1)) 1 (set classes 0 0)
-    side-ready = record {
-      exact =
-          subst (λ (s : List ℕ). Exact s (suc (lefts - 1))) (sym behind)
-          (edge-exact shape 1 (suc (lefts - 1)) (r .exact) (omega arith));
-      room = simp length-set (omega (arith, leaves-behind, r .room));
-      small = omega (arith, leaves-behind, r .small);
-    }
+    pub side-ready : Readable (set shape 0 0) (lefts + 1) (suc (lefts - 1)) 1
+    side-ready =
+        over-read 0 (record {
+          exact =
+              subst (λ (s : List ℕ). Exact s (suc (lefts - 1))) (sym behind)
+              (edge-exact shape 1 (suc (lefts - 1)) (r .exact) (omega arith));
+          behind = omega arith;
+          small = omega (arith, leaves-behind, r .small);
+        })
 
-    pub first-room : 0 < length classes
-    first-room =
-        omega (
-          arith,
-          leaves-behind,
-          r .room,
-          exact-leaves (drop (lefts + 1) shape) (suc (lefts - 1)) (side-ready .exact),
-        )
+    pub first-room : 0 < length shape
+    first-room = exact-node shape 0 1 (omega arith) (r .exact)
 
     pub side-written : {exit : List ℕ}
-        → exit ≡ sets (set classes 0 0) 1 (classBytes (sideClasses (drop (lefts + 1) shape) (lefts - 1)))
-        → exit ≡ sets classes 0 (classBytes (shapeClasses shape))
+        → exit ≡ sets (set shape 0 0) 1 (classBytes (sideClasses (drop (lefts + 1) (set shape 0 0)) (lefts - 1)))
+        → exit ≡ sets shape 0 (classBytes (shapeClasses shape))
     side-written {exit} e =
         let all : suc (lefts - 1) ≡ leftCarets shape + 0 = omega arith in
+        let same : drop (lefts + 1) (set shape 0 0) ≡ drop (suc (leftCarets shape)) shape =
+        drop-set-lt (lefts + 1) shape 0 0 (omega arith) ∙ behind in
         e
-        ∙ ap (λ (s : List ℕ). sets classes 0 (classBytes (onLeft ∷ sideClasses s (lefts - 1)))) behind
-        ∙ sym (ap (λ (cs : List Class). sets classes 0 (classBytes cs))
+        ∙ ap (λ (s : List ℕ). sets shape 0 (classBytes (onLeft ∷ sideClasses s (lefts - 1)))) same
+        ∙ sym (ap (λ (cs : List Class). sets shape 0 (classBytes cs))
         (edge-classes shape 1 0 (suc (lefts - 1)) (omega arith) (r .exact) all))

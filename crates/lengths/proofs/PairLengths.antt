@@ -1,4 +1,4 @@
--- The pair that was written into buffers with room for some number of carets, and its length. Assumes nothing.
+-- The pair that was written into buffers of some size, and its length. Assumes nothing.
 use mathlib.Core.Path.{_≡_, refl, sym, ap, ap₂, _∙_, subst}
 use mathlib.Core.List.{List, [], _∷_}
 use Prim.Native.Nat.{ℕ, _<_, _≤_}
@@ -25,61 +25,58 @@ use Rattle.trees.proofs.PairAnswers.{Counts, Judged, unfit, fit, tables-judged,
 use Rattle.trees.proofs.Built.{tree-carets}
 use Rattle.trees.proofs.Shapes.{shape-length, shape-exact}
 use Rattle.lengths.specs.declared.Length.{Length}
-use Rattle.lengths.specs.declared.Length.the-variants.{Letters}
+use Rattle.lengths.specs.declared.Length.the-variants.{Letters, Unfit}
 use Rattle.lengths.specs.Classes.{Class}
 use Rattle.lengths.specs.Kinds.{kindsOf}
 use Rattle.lengths.specs.Weights.{weights}
 use Rattle.lengths.specs.inside.Reading.{shapeClasses}
 use Rattle.lengths.specs.inside.Contracts.{lengthOf, tableLength}
-use Rattle.lengths.specs.inside.Steps.{lengthWithin, PairShaped, Rooms}
+use Rattle.lengths.specs.inside.Steps.{lengthWithin, PairShaped, Found}
 use Rattle.lengths.proofs.ShapeClasses.{shape-classes}
 
--- Beside buffers for m carets: no pair is written, or the pair of the tables.
+-- Beside buffers of m bytes: no pair is written, or the pair of the tables.
 data Within (b a : List ℕ) (m : ℕ) : Type 0 where
-  none : (number place : ℕ) → pairCarets b a (shapeSize m) (shapeSize m) ≡ refused number place
-      → lengthWithin m b a ≡ refused 0 0 → Within b a m
-  some : Counts b a (caretsOfSides b a) → caretsOfSides b a ≤ m
-      → pairCarets b a (shapeSize m) (shapeSize m) ≡ tableCarets b a → Within b a m
+  none : (number place : ℕ) → pairCarets b a m m ≡ refused number place → lengthWithin m b a ≡ refused 0 0
+      → Within b a m
+  some : Counts b a (caretsOfSides b a) → shapeSize (caretsOfSides b a) ≤ m → pairCarets b a m m ≡ tableCarets b a
+      → Within b a m
 
 pair-within : (b a : List ℕ) (m : ℕ) → Within b a m
 pair-within b a m = go (tables-judged b a)
   where
-    sized : Counts b a (caretsOfSides b a) → Dec (caretsOfSides b a ≤ m) → Within b a m
-    sized c (yes le) =
-        let room : shapeSize (caretsOfSides b a) ≤ shapeSize m = omega arith in
-        some c le (rw (c .accepts) (simp (le-ltb _ _ room)))
+    sized : Counts b a (caretsOfSides b a) → Dec (shapeSize (caretsOfSides b a) ≤ m) → Within b a m
+    sized c (yes le) = some c le (rw (c .accepts) (simp (le-ltb _ _ le)))
     sized c (no more) =
-        let short : shapeSize m < shapeSize (caretsOfSides b a) = omega arith in
-        let above : m < caretsOfSides b a = omega arith in
-        none 7 0 (rw (c .accepts) (simp (lt-ltb _ _ short))) (rw (c .accepts) (simp (lt-ltb _ _ above)))
+        let short : m < shapeSize (caretsOfSides b a) = omega arith in
+        none 7 0 (rw (c .accepts) (simp (lt-ltb _ _ short))) (rw (c .accepts) (simp (lt-ltb _ _ short)))
 
     go : Judged b a → Within b a m
     go (unfit e) = none 0 0 (rw e refl) (rw e refl)
-    go (fit c) = sized c (decLe (caretsOfSides b a) m)
+    go (fit c) = sized c (decLe (shapeSize (caretsOfSides b a)) m)
 
--- The pair was written into two buffers with room for as many carets as a table has entries.
-module _ {b a t-minus t-plus cs ds minus plus : List ℕ} {r : Pairing} (rooms : Rooms t-minus t-plus cs ds)
+-- The pair was written into two buffers of one size.
+module _ {b a t-minus t-plus minus plus : List ℕ} {r : Pairing} (same : length t-plus ≡ length t-minus)
     (w : WrotePair b a t-minus t-plus minus plus r) where
   abbrev m : ℕ
-  m = length cs
+  m = length t-minus
 
-  answers : pairingOf r ≡ pairCarets b a (shapeSize m) (shapeSize m)
-  answers = w .result ∙ ap₂ (pairCarets b a) (rooms .minus-room) (rooms .plus-room)
+  answers : pairingOf r ≡ pairCarets b a m m
+  answers = w .result ∙ ap (pairCarets b a m) same
 
-  -- No number of carets: no pair of at most m carets.
-  pub not-written : OneOf (1 ∷ 2 ∷ []) (tagOf Answer.the-type r) → refused 0 0 ≡ lengthWithin (length cs) b a
+  -- No number of carets: no pair has room.
+  pub not-written : OneOf (1 ∷ 2 ∷ []) (tagOf Answer.the-type r) → refused 0 0 ≡ lengthWithin (length t-minus) b a
   not-written h = go (pair-within b a m)
     where
-      go : Within b a m → refused 0 0 ≡ lengthWithin (length cs) b a
+      go : Within b a m → refused 0 0 ≡ lengthWithin (length t-minus) b a
       go (none number place e l) = sym l
       go (some c le e) = absurd (accepted-refused (sym (c .accepts) ∙ not-counted b a r (answers ∙ e) h))
 
   -- A number of carets: the shapes stand at the front.
   module _ {n : ℕ} (is : r ≡ Carets n) where
-    found : Counts b a n × (n ≤ m)
+    found : Counts b a n × (shapeSize n ≤ m)
     found = go (pair-within b a m)
       where
-        go : Within b a m → Counts b a n × (n ≤ m)
+        go : Within b a m → Counts b a n × (shapeSize n ≤ m)
         go (none number place e l) = absurd (accepted-refused (sym (ap pairingOf is) ∙ answers ∙ e))
         go (some c le e) =
             let c′ : Counts b a n = counted (answers ∙ e) is in
@@ -88,23 +85,20 @@ module _ {b a t-minus t-plus cs ds minus plus : List ℕ} {r : Pairing} (rooms :
     counts : Counts b a n
     counts = found .0
 
-    -- It has room in the tables.
-    pub minus-within : n ≤ length cs
-    minus-within = found .1
-
-    pub plus-within : n ≤ length ds
-    plus-within = omega (arith, minus-within, rooms .same)
+    -- Its shapes have room in the buffers.
+    within : shapeSize n ≤ length t-minus
+    within = found .1
 
     written : pairCarets b a (length t-minus) (length t-plus) ≡ accepted n
     written = sym (w .result) ∙ ap pairingOf is
 
-    front : (es entry exit : List ℕ) → length entry ≡ shapeSize m → needed 0 es ≤ n
+    front : (es entry exit : List ℕ) → length entry ≡ m → needed 0 es ≤ n
         → exit ≡ sets entry 0 (shape (treeOf n es)) → take (shapeSize n) exit ≡ shape (treeOf n es)
     front es entry exit room h e =
         let size : length (shape (treeOf n es)) ≡ shapeSize n =
         shape-length (treeOf n es) ∙ ap shapeSize (tree-carets n es h) in
         ap (take (shapeSize n)) e
-        ∙ sets-front (shape (treeOf n es)) entry (shapeSize n) size (omega (arith, minus-within, room))
+        ∙ sets-front (shape (treeOf n es)) entry (shapeSize n) size (omega (arith, within, room))
 
     minus-holds : minus ≡ sets t-minus 0 (shape (treeOf n a))
     minus-holds = w .t-minus ∙ rw written refl
@@ -113,27 +107,21 @@ module _ {b a t-minus t-plus cs ds minus plus : List ℕ} {r : Pairing} (rooms :
     plus-holds = w .t-plus ∙ rw written refl
 
     front-minus : take (shapeSize n) minus ≡ shape (treeOf n a)
-    front-minus = front a t-minus minus (rooms .minus-room) (omega (arith, counts .carets)) minus-holds
+    front-minus = front a t-minus minus refl (omega (arith, counts .carets)) minus-holds
 
     front-plus : take (shapeSize n) plus ≡ shape (treeOf n b)
-    front-plus = front b t-plus plus (rooms .plus-room) (omega (arith, counts .carets)) plus-holds
+    front-plus = front b t-plus plus same (omega (arith, counts .carets)) plus-holds
 
     pub pair-shaped : PairShaped minus plus n
     pair-shaped = record {
       few = counts .few;
       minus-room =
-          omega (
-            arith,
-            minus-within,
-            rooms .minus-room,
-            ap length minus-holds,
-            length-sets t-minus 0 (shape (treeOf n a)),
-          );
+          omega (arith, within, ap length minus-holds, length-sets t-minus 0 (shape (treeOf n a)));
       plus-room =
           omega (
             arith,
-            minus-within,
-            rooms .plus-room,
+            within,
+            same,
             ap length plus-holds,
             length-sets t-plus 0 (shape (treeOf n b)),
           );
@@ -145,28 +133,32 @@ module _ {b a t-minus t-plus cs ds minus plus : List ℕ} {r : Pairing} (rooms :
     pub pair-summed : {k : ℕ}
         → k ≡ weights (kindsOf (shapeClasses (take (shapeSize n) minus)))
         (kindsOf (shapeClasses (take (shapeSize n) plus)))
-        → accepted k ≡ lengthWithin (length cs) b a
+        → accepted k ≡ lengthWithin (length t-minus) b a
     pair-summed {k} e =
         ap accepted
         (e
         ∙ ap₂ (λ (s t : List ℕ). weights (kindsOf (shapeClasses s)) (kindsOf (shapeClasses t))) front-minus front-plus
         ∙ ap₂ (λ (x y : List Class). weights (kindsOf x) (kindsOf y)) (shape-classes (treeOf n a))
         (shape-classes (treeOf n b)))
-        ∙ rw (counts .accepts) (simp (le-ltb _ _ minus-within))
+        ∙ rw (counts .accepts) (simp (le-ltb _ _ within))
 
 -- A length within some room is the length.
-pub within-length : (b a : List ℕ) (m : ℕ) {r : Length} {k : ℕ} → r ≡ Letters k → lengthOf r ≡ lengthWithin m b a
-    → lengthOf r ≡ tableLength b a
-within-length b a m {r} {k} is e = go (pair-within b a m)
+pub within-found : (b a : List ℕ) (m : ℕ) {r : Length} → lengthOf r ≡ lengthWithin m b a → Found b a r
+within-found b a m {r} e = record { fits = λ k is. go k is (pair-within b a m) }
   where
-    go : Within b a m → lengthOf r ≡ tableLength b a
-    go (none number place x l) = absurd (accepted-refused (sym (ap lengthOf is) ∙ e ∙ l))
-    go (some c le x) = e ∙ rw (c .accepts) (simp (le-ltb _ _ le))
+    go : (k : ℕ) → r ≡ Letters k → Within b a m → lengthOf r ≡ tableLength b a
+    go k is (none number place x l) = absurd (accepted-refused (sym (ap lengthOf is) ∙ e ∙ l))
+    go k is (some c le x) = e ∙ rw (c .accepts) (simp (le-ltb _ _ le))
+
+pub unfit-found : (b a : List ℕ) → Found b a Unfit
+unfit-found b a = record { fits = λ k is. absurd (accepted-refused (sym (ap lengthOf is))) }
 
 -- No pair has more carets than the largest.
-pub within-largest : (b a : List ℕ) → lengthWithin maxCarets b a ≡ tableLength b a
+pub within-largest : (b a : List ℕ) → lengthWithin (shapeSize maxCarets) b a ≡ tableLength b a
 within-largest b a = go (tables-judged b a)
   where
-    go : Judged b a → lengthWithin maxCarets b a ≡ tableLength b a
+    go : Judged b a → lengthWithin (shapeSize maxCarets) b a ≡ tableLength b a
     go (unfit e) = rw e refl
-    go (fit c) = rw (c .accepts) (simp (le-ltb _ _ (c .few)))
+    go (fit c) =
+        let room : shapeSize (caretsOfSides b a) ≤ shapeSize maxCarets = omega (arith, c .few) in
+        rw (c .accepts) (simp (le-ltb _ _ room))

@@ -6,8 +6,8 @@ use mathlib.Core.Path.{_≡_, refl, sym, ap, ap₂, _∙_}
 use mathlib.Core.List.{List, [], _∷_, _++_}
 use Prim.Native.Nat.{ℕ, zero, suc, _+_, _≤_}
 use native.Mathlib.Omega.{arith}
-use lib.ListN.{length, take}
-use lib.Seq.{length-take-le, sets}
+use lib.ListN.{length, take, drop, length-append}
+use lib.Seq.{length-take-le, take-append-le, sets, length-sets}
 use Rattle.lists.proofs.Writes.{sets-front}
 use Rattle.trees.specs.Trees.{Tree, leaf, caret, carets}
 use Rattle.trees.specs.inside.Counting.{maxCarets}
@@ -56,32 +56,39 @@ module _ (buffer : List ℕ) (n : ℕ) (room : shapeSize n ≤ length buffer)
       ∙ carets-count
 
   -- The reader may begin.
-  pub shape-readable : {classes : List ℕ} → n ≤ maxCarets → n ≤ length classes → Readable bytes 0 1 0 classes
-  shape-readable few h = record {
-    exact = exact;
-    room = omega (arith, leaves-count);
-    small = omega (arith, leaves-count);
-  }
+  pub shape-readable : n ≤ maxCarets → Readable bytes 0 1 0
+  shape-readable few = record { exact = exact; behind = omega arith; small = omega (arith, leaves-count) }
 
-  -- The table holds the classes.
-  pub table-classes : (entry exit : List ℕ) → n ≤ length entry → exit ≡ sets entry 0 (classBytes (shapeClasses bytes))
-      → classesOf (take n exit) ≡ shapeClasses bytes
-  table-classes entry exit h e =
-      let cs = classBytes (shapeClasses bytes) in
-      let size : length cs ≡ n = bytes-length (shapeClasses bytes) ∙ classes-count in
-      ap (λ (l : List ℕ). classesOf (take n l)) e
-      ∙ ap classesOf (sets-front cs entry n size h)
-      ∙ classes-read (shapeClasses bytes)
+  -- The classes were written over the shape: they stand at the front of the buffer.
+  module _ {written : List ℕ} (e : written ≡ sets bytes 0 (classBytes (shapeClasses bytes))) where
+    size : length written ≡ shapeSize n
+    size =
+        ap length e
+        ∙ length-sets bytes 0 (classBytes (shapeClasses bytes))
+        ∙ length-take-le (shapeSize n) buffer room
+
+    pub table-room : n ≤ length (written ++ drop (shapeSize n) buffer)
+    table-room = omega (arith, size, length-append written (drop (shapeSize n) buffer))
+
+    pub table-classes : classesOf (take n (written ++ drop (shapeSize n) buffer)) ≡ shapeClasses bytes
+    table-classes =
+        let cs = classBytes (shapeClasses bytes) in
+        let count : length cs ≡ n = bytes-length (shapeClasses bytes) ∙ classes-count in
+        ap classesOf
+        (take-append-le n written (drop (shapeSize n) buffer) (omega (arith, size))
+        ∙ ap (take n) e
+        ∙ sets-front cs bytes n count (omega (arith, length-take-le (shapeSize n) buffer room)))
+        ∙ classes-read (shapeClasses bytes)
 
 -- The sum over the tables of a pair is that over its shapes.
-pub shapes-sum : {minus plus : List ℕ} {n : ℕ} → PairShaped minus plus n → (m p : List ℕ) → n ≤ length m → n ≤ length p
-    → {m′ p′ : List ℕ} {r : ℕ}
-    → m′ ≡ sets m 0 (classBytes (shapeClasses (take (shapeSize n) minus)))
-    → p′ ≡ sets p 0 (classBytes (shapeClasses (take (shapeSize n) plus)))
-    → r ≡ weights (kindsOf (classesOf (take n m′))) (kindsOf (classesOf (take n p′)))
+pub shapes-sum : {minus plus : List ℕ} {n : ℕ} → PairShaped minus plus n → {m p : List ℕ} {r : ℕ}
+    → m ≡ sets (take (shapeSize n) minus) 0 (classBytes (shapeClasses (take (shapeSize n) minus)))
+    → p ≡ sets (take (shapeSize n) plus) 0 (classBytes (shapeClasses (take (shapeSize n) plus)))
+    → r ≡ weights (kindsOf (classesOf (take n (m ++ drop (shapeSize n) minus))))
+    (kindsOf (classesOf (take n (p ++ drop (shapeSize n) plus))))
     → r ≡ weights (kindsOf (shapeClasses (take (shapeSize n) minus))) (kindsOf (shapeClasses (take (shapeSize n) plus)))
-shapes-sum {minus} {plus} {n} h m p hm hp {m′} {p′} em ep e =
+shapes-sum {minus} {plus} {n} h em ep e =
     e
     ∙ ap₂ (λ (cs ds : List Class). weights (kindsOf cs) (kindsOf ds))
-    (table-classes minus n (h .minus-room) (h .minus-exact) m m′ hm em)
-    (table-classes plus n (h .plus-room) (h .plus-exact) p p′ hp ep)
+    (table-classes minus n (h .minus-room) (h .minus-exact) em)
+    (table-classes plus n (h .plus-room) (h .plus-exact) ep)

@@ -2,33 +2,30 @@
 --     rest n k bytes   the classes of the carets k to n − 1         Summed   their weights are summed
 -- Assumes nothing.
 use mathlib.Core.Path.{_≡_, refl, sym, ap, ap₂, _∙_}
+use mathlib.Core.Bool as Tests
 use mathlib.Core.Bool.{Bool, true, false}
 use mathlib.Core.List.{List, [], _∷_}
 use Prim.Native.Nat.{ℕ, zero, suc, _+_, _*_, _<_, _≤_}
 use native.Mathlib.Omega.{arith}
+use lib.Dec.{leb}
 use lib.ListN.{length, take, drop, getD}
 use lib.Seq.{length-take-le, drop-cons, drop-length, getD-take}
 use Rattle.trees.specs.inside.Counting.{maxCarets}
 use Rattle.lengths.specs.declared.table.CaretKind.{CaretKind}
-use Rattle.lengths.specs.declared.sums.Behind.{Behind}
 use Rattle.lengths.specs.Classes.{Class}
-use Rattle.lengths.specs.Kinds.{Kind, inside, nextInside, someInside, kindOf, laterKinds, kindsOf}
+use Rattle.lengths.specs.Kinds.{
+  Kind,
+  either,
+  nextInside,
+  someInside,
+  kindOf,
+  laterKinds,
+  kindsOf,
+}
 use Rattle.lengths.specs.Weights.{weight, weights}
-use Rattle.lengths.specs.inside.Steps.{classOf, classesOf, kindNamed, seen}
+use Rattle.lengths.specs.inside.Steps.{classOf, classesOf, kindNamed}
 use Rattle.lengths.proofs.Weights.{weight-most}
-
--- The answer of `before`, by the test of the class.
-pub seen-inside : (x : ℕ) (b : Behind) {r : Bool} → r ≡ inside (classOf x) → r ≡ true
-    → record { next = r; later = r } ≡ seen (classOf x) b
-seen-inside x b e h = rw (sym e, h) refl
-
-pub seen-other : (x : ℕ) (b : Behind) {r : Bool} → r ≡ inside (classOf x) → r ≡ false
-    → record { next = r; later = b .later } ≡ seen (classOf x) b
-seen-other x b e h = rw (sym e, h) refl
-
--- What is behind a caret, by the classes of the carets behind it.
-abbrev behind : List Class → Behind
-behind cs = record { next = nextInside cs; later = someInside cs }
+use Rattle.lengths.proofs.ClassBytes.{inside-test}
 
 -- The classes of the carets k to n − 1, from a table of classes.
 abbrev rest : (n k : ℕ) → List ℕ → List Class
@@ -38,8 +35,9 @@ rest n k bytes = classesOf (drop k (take n bytes))
 abbrev weightsOf : (cs ds : List Class) → ℕ
 weightsOf cs ds = weights (laterKinds cs) (laterKinds ds)
 
--- The weights of the carets k to n − 1 are summed; caret 0 is left out.
-pub record Summed (minus plus : List ℕ) (n k sum : ℕ) (m p : Behind) : Type 0 where
+-- The weights of the carets k to n − 1 are summed; caret 0 is left out. Of both trees it is known whether caret k is
+-- interior, and whether it or some later one is.
+pub record Summed (minus plus : List ℕ) (n k sum : ℕ) (m-next m-later p-next p-later : Bool) : Type 0 where
   pub few : n ≤ maxCarets
   pub minus-room : n ≤ length minus
   pub plus-room : n ≤ length plus
@@ -47,8 +45,10 @@ pub record Summed (minus plus : List ℕ) (n k sum : ℕ) (m p : Behind) : Type 
   pub some : 0 < n → 0 < k
   pub sums : sum ≡ weightsOf (rest n k minus) (rest n k plus)
   pub bound : sum + 4 * k ≤ 4 * n
-  pub minus-behind : m ≡ behind (rest n k minus)
-  pub plus-behind : p ≡ behind (rest n k plus)
+  pub minus-next : m-next ≡ nextInside (rest n k minus)
+  pub minus-later : m-later ≡ someInside (rest n k minus)
+  pub plus-next : p-next ≡ nextInside (rest n k plus)
+  pub plus-later : p-later ≡ someInside (rest n k plus)
 
 rest-none : (n : ℕ) (bytes : List ℕ) → n ≤ length bytes → rest n n bytes ≡ []
 rest-none n bytes h =
@@ -56,7 +56,7 @@ rest-none n bytes h =
     ∙ ap classesOf (drop-length (take n bytes))
 
 pub sum-start : {minus plus : List ℕ} {n : ℕ} → n ≤ maxCarets → n ≤ length minus → n ≤ length plus
-    → Summed minus plus n n 0 (behind []) (behind [])
+    → Summed minus plus n n 0 false false false false
 sum-start {minus} {plus} {n} few hm hp =
     let no-minus = rest-none n minus hm in
     let no-plus = rest-none n plus hp in
@@ -68,48 +68,58 @@ sum-start {minus} {plus} {n} few hm hp =
       some = λ h. h;
       sums = sym (ap₂ weightsOf no-minus no-plus);
       bound = omega arith;
-      minus-behind = sym (ap behind no-minus);
-      plus-behind = sym (ap behind no-plus);
+      minus-next = sym (ap nextInside no-minus);
+      minus-later = sym (ap someInside no-minus);
+      plus-next = sym (ap nextInside no-plus);
+      plus-later = sym (ap someInside no-plus);
     }
 
 -- One class more.
-rest-more : {n i j : ℕ} (bytes : List ℕ) (x : ℕ) → n ≤ length bytes → j ≤ n → j ≡ suc i → x ≡ getD bytes i 0
-    → rest n i bytes ≡ classOf x ∷ rest n j bytes
-rest-more {n} {i} {j} bytes x room h at is =
-    rw (at, is, sym (getD-take n bytes i 0 (omega arith)))
+rest-more : {n i j : ℕ} (bytes : List ℕ) → n ≤ length bytes → j ≤ n → j ≡ suc i
+    → rest n i bytes ≡ classOf (getD bytes i 0) ∷ rest n j bytes
+rest-more {n} {i} {j} bytes room h at =
+    rw (at, sym (getD-take n bytes i 0 (omega arith)))
     (ap classesOf (drop-cons (take n bytes) i 0 (omega (arith, length-take-le n bytes room))))
 
--- The kind of a caret, and what is behind the caret before it.
-kind-more : {m : Behind} (cs : List Class) (a : CaretKind) (x : ℕ) → m ≡ behind cs
-    → kindNamed a ≡ kindOf (classOf x) (m .next) (m .later)
-    → kindNamed a ≡ kindOf (classOf x) (nextInside cs) (someInside cs)
-kind-more cs a x e h = h ∙ ap (λ (b : Behind). kindOf (classOf x) (b .next) (b .later)) e
+-- The tests of the code, by the class that is cut off.
+or-either : (p q : Bool) → Tests._||_ p q ≡ either p q
+or-either true q = refl
+or-either false q = refl
 
-behind-more : {m m′ : Behind} {cs ds : List Class} (x : ℕ) → m ≡ behind cs → m′ ≡ seen (classOf x) m
-    → ds ≡ classOf x ∷ cs → m′ ≡ behind ds
-behind-more x e h cut = h ∙ ap (seen (classOf x)) e ∙ sym (ap behind cut)
+next-more : {cs ds : List Class} (x : ℕ) → ds ≡ classOf x ∷ cs → leb 2 x ≡ nextInside ds
+next-more x cut = inside-test x ∙ sym (ap nextInside cut)
+
+later-more : {cs ds : List Class} {later : Bool} (x : ℕ) → later ≡ someInside cs → ds ≡ classOf x ∷ cs
+    → Tests._||_ (leb 2 x) later ≡ someInside ds
+later-more {cs} {ds} {later} x e cut =
+    or-either (leb 2 x) later ∙ ap₂ either (inside-test x) e ∙ sym (ap someInside cut)
 
 -- One caret more.
-module _ {minus plus : List ℕ} {n j sum : ℕ} {m p : Behind} (h : Summed minus plus n j sum m p) {i x y w : ℕ}
-    {m′ p′ : Behind} (a b : CaretKind) (at : j ≡ suc i) (left : 0 < i)
-    (is-x : x ≡ getD minus i 0) (is-y : y ≡ getD plus i 0)
-    (is-a : kindNamed a ≡ kindOf (classOf x) (m .next) (m .later))
-    (is-b : kindNamed b ≡ kindOf (classOf y) (p .next) (p .later))
-    (weighs : w ≡ weight (kindNamed a) (kindNamed b))
-    (m-seen : m′ ≡ seen (classOf x) m) (p-seen : p′ ≡ seen (classOf y) p) where
+module _ {minus plus : List ℕ} {n j sum : ℕ} {m-next m-later p-next p-later : Bool}
+    (h : Summed minus plus n j sum m-next m-later p-next p-later) {i w : ℕ} (a b : CaretKind) (at : j ≡ suc i)
+    (left : 0 < i) (is-a : kindNamed a ≡ kindOf (classOf (getD minus i 0)) m-next m-later)
+    (is-b : kindNamed b ≡ kindOf (classOf (getD plus i 0)) p-next p-later)
+    (weighs : w ≡ weight (kindNamed a) (kindNamed b)) where
+  abbrev x : ℕ
+  x = getD minus i 0
+
+  abbrev y : ℕ
+  y = getD plus i 0
+
   minus-cut : rest n i minus ≡ classOf x ∷ rest n j minus
-  minus-cut = rest-more minus x (h .minus-room) (h .within) at is-x
+  minus-cut = rest-more minus (h .minus-room) (h .within) at
 
   plus-cut : rest n i plus ≡ classOf y ∷ rest n j plus
-  plus-cut = rest-more plus y (h .plus-room) (h .within) at is-y
+  plus-cut = rest-more plus (h .plus-room) (h .within) at
 
   minus-kind : kindNamed a ≡ kindOf (classOf x) (nextInside (rest n j minus)) (someInside (rest n j minus))
-  minus-kind = kind-more (rest n j minus) a x (h .minus-behind) is-a
+  minus-kind = is-a ∙ ap₂ (kindOf (classOf x)) (h .minus-next) (h .minus-later)
 
   plus-kind : kindNamed b ≡ kindOf (classOf y) (nextInside (rest n j plus)) (someInside (rest n j plus))
-  plus-kind = kind-more (rest n j plus) b y (h .plus-behind) is-b
+  plus-kind = is-b ∙ ap₂ (kindOf (classOf y)) (h .plus-next) (h .plus-later)
 
-  pub sum-more : Summed minus plus n i (sum + w) m′ p′
+  pub sum-more : Summed minus plus n i (sum + w) (leb 2 x) (Tests._||_ (leb 2 x) m-later) (leb 2 y)
+      (Tests._||_ (leb 2 y) p-later)
   sum-more =
       let total : sum + w ≡ weightsOf (classOf x ∷ rest n j minus) (classOf y ∷ rest n j plus) =
       omega (arith, h .sums, weighs, ap₂ weight minus-kind plus-kind) in
@@ -121,8 +131,10 @@ module _ {minus plus : List ℕ} {n j sum : ℕ} {m p : Behind} (h : Summed minu
         some = λ _. left;
         sums = total ∙ sym (ap₂ weightsOf minus-cut plus-cut);
         bound = omega (arith, h .bound, weighs, weight-most (kindNamed a) (kindNamed b));
-        minus-behind = behind-more x (h .minus-behind) m-seen minus-cut;
-        plus-behind = behind-more y (h .plus-behind) p-seen plus-cut;
+        minus-next = next-more x minus-cut;
+        minus-later = later-more x (h .minus-later) minus-cut;
+        plus-next = next-more y plus-cut;
+        plus-later = later-more y (h .plus-later) plus-cut;
       }
 
 -- Caret 0 weighs nothing.
@@ -138,13 +150,14 @@ weights-behind (x ∷ xs) [] = weights-none (laterKinds (classesOf xs))
 weights-behind (x ∷ xs) (y ∷ ys) = omega arith
 
 -- All are summed.
-pub sum-done : {minus plus : List ℕ} {n k sum : ℕ} {m p : Behind} → Summed minus plus n k sum m p → k ≤ 1
+pub sum-done : {minus plus : List ℕ} {n k sum : ℕ} {m-next m-later p-next p-later : Bool}
+    → Summed minus plus n k sum m-next m-later p-next p-later → k ≤ 1
     → sum ≡ weights (kindsOf (classesOf (take n minus))) (kindsOf (classesOf (take n plus)))
-sum-done {minus} {plus} {n} {k} {sum} {m} {p} h last = go n k h last
+sum-done {minus} {plus} {n} {k} {sum} h last = go n k (h .sums) (h .some) last
   where
-    go : (n k : ℕ) → Summed minus plus n k sum m p → k ≤ 1
+    go : (n k : ℕ) → sum ≡ weightsOf (rest n k minus) (rest n k plus) → (0 < n → 0 < k) → k ≤ 1
         → sum ≡ weights (kindsOf (classesOf (take n minus))) (kindsOf (classesOf (take n plus)))
-    go zero zero s e = s .sums
-    go (suc n) zero s e = absurd (omega (arith, s .some (omega arith)))
-    go n (suc zero) s e = s .sums ∙ weights-behind (take n minus) (take n plus)
-    go n (suc (suc k)) s e = absurd (omega arith)
+    go zero zero s some e = s
+    go (suc n) zero s some e = absurd (omega (arith, some (omega arith)))
+    go n (suc zero) s some e = s ∙ weights-behind (take n minus) (take n plus)
+    go n (suc (suc k)) s some e = absurd (omega arith)

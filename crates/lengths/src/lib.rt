@@ -2,8 +2,9 @@
 ghost use mathlib.Core.Path.{_≡_};
 ghost use lib.ListN.{length};
 ghost use Rattle.trees.specs.inside.Counting.{maxCarets};
+ghost use Rattle.trees.specs.Shapes.{shapeSize};
 ghost use Rattle.lengths.specs.inside.Contracts.{lengthOf, tableLength};
-ghost use Rattle.lengths.specs.inside.Steps.{smallCarets, lengthWithin, Rooms};
+ghost use Rattle.lengths.specs.inside.Steps.{lengthWithin, Found};
 use trees::MAX_CARETS;
 use trees::Pairing;
 
@@ -28,55 +29,44 @@ pub enum Length {
     Unfit,
 }
 
-// The length of the smallest tree pair with the exponents of two tables; unfit if it has more carets than the tables of
-// classes have entries. The shapes and the classes are written into the four buffers, whatever they hold.
-fn length_in(
-    b: &[u16],
-    a: &[u16],
-    t_minus: &mut [u8],
-    t_plus: &mut [u8],
-    minus: &mut [u8],
-    plus: &mut [u8],
-) -> Length
-    requires { ⌜ Rooms (now «t_minus») (now «t_plus») (now minus) (now plus) ⌝ }
-    ensures { λ r. ⌜ lengthOf r ≡ lengthWithin (length (now (minus .entry))) (now (b .entry)) (now (a .entry)) ⌝ }
+// The length of the smallest tree pair with the exponents of two tables; unfit if its shapes have no room in the two
+// buffers, which are of one length. The shapes and the classes are written into them, whatever they hold.
+fn length_in(b: &[u16], a: &[u16], t_minus: &mut [u8], t_plus: &mut [u8]) -> Length
+    requires { ⌜ length (now «t_plus») ≡ length (now «t_minus») ⌝ }
+    ensures { λ r. ⌜ lengthOf r ≡ lengthWithin (length (now («t_minus» .entry))) (now (b .entry)) (now (a .entry)) ⌝ }
 {
     let pairing = trees::write_pair(b, a, t_minus, t_plus);
     let Pairing::Carets(n) = pairing else {
         return Length::Unfit;
     };
-    Length::Letters(sums::shapes_length(t_minus, t_plus, n, minus, plus))
+    Length::Letters(sums::shapes_length(t_minus, t_plus, n))
 }
 
-// The length of a pair of at most SMALL carets; unfit if it has more.
+// The length of a pair of at most SMALL carets; unfit if it has more, or if the first table has more entries.
 fn small_length(b: &[u16], a: &[u16]) -> Length
-    ensures { λ r. ⌜ lengthOf r ≡ lengthWithin smallCarets (now (b .entry)) (now (a .entry)) ⌝ }
+    ensures { λ r. ⌜ Found (now (b .entry)) (now (a .entry)) r ⌝ }
 {
+    if SMALL < b.len() {
+        return Length::Unfit;
+    }
     let mut t_minus = [0u8; SMALL_SHAPE];
     let mut t_plus = [0u8; SMALL_SHAPE];
-    let mut minus = [0u8; SMALL];
-    let mut plus = [0u8; SMALL];
-    length_in(b, a, &mut t_minus, &mut t_plus, &mut minus, &mut plus)
+    length_in(b, a, &mut t_minus, &mut t_plus)
 }
 
 // The length of a pair of at most MAX_CARETS carets.
 fn large_length(b: &[u16], a: &[u16]) -> Length
-    ensures { λ r. ⌜ lengthOf r ≡ lengthWithin maxCarets (now (b .entry)) (now (a .entry)) ⌝ }
+    ensures { λ r. ⌜ lengthOf r ≡ lengthWithin (shapeSize maxCarets) (now (b .entry)) (now (a .entry)) ⌝ }
 {
     let mut t_minus = [0u8; MAX_SHAPE];
     let mut t_plus = [0u8; MAX_SHAPE];
-    let mut minus = [0u8; MAX_CARETS];
-    let mut plus = [0u8; MAX_CARETS];
-    length_in(b, a, &mut t_minus, &mut t_plus, &mut minus, &mut plus)
+    length_in(b, a, &mut t_minus, &mut t_plus)
 }
 
 // The length of the smallest tree pair with the exponents of two tables of at most MAX_CARETS entries each.
 pub fn pair_length(b: &[u16], a: &[u16]) -> Length
     ensures { λ r. ⌜ lengthOf r ≡ tableLength (now (b .entry)) (now (a .entry)) ⌝ }
 {
-    if SMALL < b.len() {
-        return large_length(b, a);
-    }
     let small = small_length(b, a);
     let Length::Unfit = small else {
         return small;

@@ -1,5 +1,5 @@
--- What is put into a part that was lent, seen in the whole; and what `finish` writes: the receipt of a last line that is
--- not empty, or nothing. Assumes nothing.
+-- What is put into a part that was lent, seen in the whole; and what `finish` writes: the receipt of a last line that
+-- is not empty, or nothing. Assumes nothing.
 use mathlib.Core.Path.{_≡_, refl, sym, ap, _∙_}
 use mathlib.Core.List.{List, [], _∷_, _++_, append-nil}
 use Prim.Native.Nat.{ℕ, zero, suc, _+_, _-_, _<_, _≤_}

@@ -73,7 +73,8 @@ module _ (i e j : ℕ) (p q : List Power) (r : Proper j q) (lt : i < j) where
   keep-b : (k : ℕ) → Breaks p q k → Breaks (power i e ∷ p) q k
   keep-b k h =
       let g : i < k = omega (arith, occurs-high q j k r (h .a), lt) in
-      same-breaks p q (power i e ∷ p) q k (sym (higher i e k p g)) (sym (higher i e (suc k) p (omega arith))) refl refl h
+      same-breaks p q (power i e ∷ p) q k
+      (sym (higher i e k p g)) (sym (higher i e (suc k) p (omega arith))) refl refl h
 
   pub merge-left : {o : Option ℕ} → Merged p q o → Merged (power i e ∷ p) q o
   merge-left m = along skip-b keep-b m
@@ -125,7 +126,9 @@ module _ (i e d : ℕ) (p q : List Power) (pp : Proper (suc i) p) (pq : Proper (
         b-next = higher i e (suc i) p (omega arith) ∙ np;
         a-next = higher i d (suc i) q (omega arith) ∙ nq;
       }
-      (λ k lt h. omega (arith, h .b, at-other i e k p (λ x. omega (arith, x, lt)), at-below p (suc i) k pp (omega (arith, lt))))
+      (λ k lt h.
+      omega
+      (arith, h .b, at-other i e k p (λ x. omega (arith, x, lt)), at-below p (suc i) k pp (omega (arith, lt))))
 
 -- The next index stands first, or not at all.
 pub start-next : (k low : ℕ) (ps : List Power) → Proper low ps → starts k ps ≡ true → 0 < exponentAt ps k

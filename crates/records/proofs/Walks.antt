@@ -19,7 +19,8 @@ use Rattle.clause.specs.Clause.{findBreak}
 use Rattle.records.specs.inside.Steps.{Proper}
 use Rattle.records.specs.inside.Walking.{leftAt, behind, passedBy, startsAt, breaksAt, Inside, Walkable}
 use Rattle.records.proofs.WrittenEntries.{entries-next}
-use Rattle.records.proofs.Merging.{Breaks, Merged, merge-left, merge-right, merge-both, next-b, next-a, merge-here}
+use Rattle.records.proofs.Merging.{Breaks, Merged, merge-left, merge-right, merge-both}
+use Rattle.records.proofs.Merging.{next-b, next-a, merge-here}
 use Rattle.records.proofs.Merging.{start-next, no-start, merge-no-b, merge-no-a}
 use Rattle.records.proofs.MergedForms.{foundIn, merged-found}
 
@@ -238,7 +239,8 @@ module _ {s : List ℕ} {b a p q : Place} (w : Walking s b a p q) (lp : 0 < p .l
           broken-here same (sym (rw (eq-eqb i j same) refl) ∙ k)
 
   -- The same of places and a test that are known by their contracts.
-  module _ {np nq : Place} (en : np ≡ passedBy p i j) (em : nq ≡ passedBy q j i) {x : Bool} (t : x ≡ breaksAt s np nq i j) where
+  module _ {np nq : Place} (en : np ≡ passedBy p i j) (em : nq ≡ passedBy q j i) {x : Bool}
+      (t : x ≡ breaksAt s np nq i j) where
     tested : breaksAt s (passedBy p i j) (passedBy q j i) i j ≡ x
     tested = sym (t ∙ ap₂ (λ (u v : Place). breaksAt s u v i j) en em)
 

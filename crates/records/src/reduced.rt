@@ -1,5 +1,5 @@
-// The reduced form's clause, and the tables, of a record whose entries are right. A record of few entries is walked; the
-// exponents of one with many are put into tables, since a walk mispredicts its branches there.
+// The reduced form's clause, and the tables, of a record whose entries are right. A record of few entries is walked;
+// the exponents of one with many are put into tables, since a walk mispredicts its branches there.
 ghost use mathlib.Core.Path.{_≡_};
 ghost use Prim.Native.Nat.{_<_};
 ghost use Rattle.refusals.specs.Outcomes.{verdictOf, dropValue};

@@ -1,4 +1,4 @@
--- Numbers in four bytes, high byte first, as the registers of 02, [3], and the third field of a record of [9] have them.
+-- Numbers in four bytes, high byte first, as the registers of 02, [3], and the third field of a record, [9], have.
 -- Inside: no claim reaches these definitions; a reader of the claims need not believe them. Assumes nothing.
 use mathlib.Core.List.{List, _++_}
 use Prim.Native.Nat.{ℕ, _+_, _*_, _/_, _%_}

@@ -14,8 +14,8 @@ use Rattle.fields.specs.inside.Reading.{headSize}
 abbrev pub mostBody : ℕ
 mostBody = 65535
 
--- The field of a body beside a buffer: 7 for a body with more bytes than a two-byte length can say, whatever the buffer,
--- and where the buffer is shorter than the field.
+-- The field of a body beside a buffer: 7 for a body with more bytes than a two-byte length can say, whatever the
+-- buffer, and where the buffer is shorter than the field.
 abbrev pub fieldIn : (tag : ℕ) (body out : List ℕ) → Outcome (List ℕ)
 fieldIn tag body out =
     cond (ltb mostBody (length body)) (refused 7 0) (fitting (headSize + length body) (field tag body) out)

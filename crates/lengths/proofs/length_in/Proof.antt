@@ -1,6 +1,6 @@
 -- `length_in` meets its contract: the shapes of the pair, then the sum over them. Assumes nothing.
 use borrow.Author.Needs.{needs}
-use Rattle.lengths.proofs.PairLengths.{not-written, minus-within, plus-within, pair-shaped, pair-summed}
+use Rattle.lengths.proofs.PairLengths.{not-written, pair-shaped, pair-summed}
 use Rattle.lengths.proofs.length_in.Statement.{statement}
 use Rattle.lengths.proofs.length_in.Tie as tie
 
@@ -13,7 +13,7 @@ enum-known-pairing c = search needs
 -- The start, seen from behind the call that wrote the pair.
 abbrev start : tie.After-write-pair → tie.Start
 start c =
-    let at-slice-known2 = c .before .before .before .before .before in
+    let at-slice-known2 = c .before .before .before in
     at-slice-known2 .before .before .before .before
 
 same-length : tie.Need-same-length
@@ -29,12 +29,9 @@ returns c =
 
 shapes-length-requires : tie.Need-shapes-length-requires
 shapes-length-requires c κs =
-    let at-pairing = c .before .before .before .before .before in
+    let at-pairing = c .before .before .before in
     let at-write-pair = at-pairing .before .before .before .before .before .before in
-    let rooms = start at-write-pair .pre in
-    let w = at-write-pair .write-pair .ensures in
-    let is = at-pairing .pairing .given .1 in
-    (pair-shaped rooms w is, (minus-within rooms w is, plus-within rooms w is))
+    pair-shaped (start at-write-pair .pre) (at-write-pair .write-pair .ensures) (at-pairing .pairing .given .1)
 
 same-length-3 : tie.Need-same-length-3
 same-length-3 c = search needs
@@ -42,16 +39,10 @@ same-length-3 c = search needs
 same-length-4 : tie.Need-same-length-4
 same-length-4 c = search needs
 
-same-length-5 : tie.Need-same-length-5
-same-length-5 c = search needs
-
-same-length-6 : tie.Need-same-length-6
-same-length-6 c = search needs
-
 returns-2 : tie.Need-returns-2
 returns-2 c =
     let at-shapes-length = c .before .before .before .before in
-    let at-pairing = at-shapes-length .before .before .before .before .before .before in
+    let at-pairing = at-shapes-length .before .before .before .before in
     let at-write-pair = at-pairing .before .before .before .before .before .before in
     pair-summed (start at-write-pair .pre) (at-write-pair .write-pair .ensures) (at-pairing .pairing .given .1)
     (at-shapes-length .shapes-length .ensures)
@@ -68,6 +59,4 @@ length-in-spec =
     shapes-length-requires
     same-length-3
     same-length-4
-    same-length-5
-    same-length-6
     returns-2)

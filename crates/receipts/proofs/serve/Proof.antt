@@ -15,7 +15,8 @@ returns : tie.Need-returns
 returns c =
     let start = c .before .before .before .before .args in
     part-short (start .part .now) (start .number) (start .held) (start .line .now) (start .out .now) _ refl
-    (too-short (length (start .out .now)) (partSize (length (start .part .now))) (c .before .is-enough .ensures) (c .if1 .taken))
+    (too-short (length (start .out .now)) (partSize (length (start .part .now)))
+    (c .before .is-enough .ensures) (c .if1 .taken))
 
 serve-lines-requires : tie.Need-serve-lines-requires
 serve-lines-requires c κs =

@@ -23,9 +23,10 @@ returns : tie.Need-returns
 returns c =
     let frame = c .before .before in
     let bytes = frame .before .before .before in
+    let broken = sym (frame .read-frame .ensures) ∙ c .enum-told .given .1 in
     record {
       are-bytes = λ i. omega (arith, bytes .shared-slice-known .given i);
-      reads = into-refused _ (decode-broken (bytes .before .args .«record» .now) (sym (frame .read-frame .ensures) ∙ c .enum-told .given .1)) refl;
+      reads = into-refused _ (decode-broken (bytes .before .args .«record» .now) broken) refl;
     }
 
 check-entries-requires : tie.Need-check-entries-requires
@@ -40,9 +41,10 @@ returns-2 c =
     let fields = entries .before .before in
     let frame = fields .before .before in
     let bytes = frame .before .before .before in
+    let framed = sym (frame .read-frame .ensures) ∙ fields .fields .given .1 in
     record {
       are-bytes = λ i. omega (arith, bytes .shared-slice-known .given i);
-      reads = into-refused _ (decode-stops (bytes .before .args .«record» .now) (sym (frame .read-frame .ensures) ∙ fields .fields .given .1) _ _
+      reads = into-refused _ (decode-stops (bytes .before .args .«record» .now) framed _ _
           (sym (ap verdictOf (c .before .entries .given .1)) ∙ entries .check-entries .ensures)) refl;
     }
 
@@ -73,10 +75,11 @@ returns-3 c =
     let fields = entries .before .before in
     let frame = fields .before .before in
     let bytes = frame .before .before .before in
+    let framed = sym (frame .read-frame .ensures) ∙ fields .fields .given .1 in
     record {
       are-bytes = λ i. omega (arith, bytes .shared-slice-known .given i);
       reads = into-same
-          (sym (decode-goes-on (bytes .before .args .«record» .now) (sym (frame .read-frame .ensures) ∙ fields .fields .given .1)
+          (sym (decode-goes-on (bytes .before .args .«record» .now) framed
           (sym (ap verdictOf (told .enum-told2 .given .1)) ∙ entries .check-entries .ensures))) (read .read .ensures);
     }
 

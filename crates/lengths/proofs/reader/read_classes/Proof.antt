@@ -9,8 +9,8 @@ use Rattle.lengths.proofs.reader.read_classes.Tie as tie
 left-edge-requires : tie.Need-left-edge-requires
 left-edge-requires c κs = search needs
 
-slice-write-classes : tie.Need-slice-write-classes
-slice-write-classes c =
+slice-write-shape : tie.Need-slice-write-shape
+slice-write-shape c =
     let at-left-edge = c .before in
     let at-start = at-left-edge .before .before .before in
     first-room (at-start .pre) _ (at-left-edge .left-edge .ensures .0) (c .if1 .taken)
@@ -32,7 +32,7 @@ same-length : tie.Need-same-length
 same-length c =
     let at-read-side = c .before .before in
     let at-start = at-read-side .before .before .before .before .before .before in
-    at-read-side .read-side .kept .1 .1 .1 .1 .0 ∙ length-set (at-start .args .classes .now) 0 0
+    at-read-side .read-side .kept .0 ∙ length-set (at-start .args .shape .now) 0 0
 
 returns : tie.Need-returns
 returns c =
@@ -42,6 +42,9 @@ returns c =
     let at-start = at-left-edge .before .before .before in
     side-written (at-start .pre) _ (at-left-edge .left-edge .ensures .0) (at-if1 .if1 .taken)
     (at-read-side .read-side .ensures)
+
+same-length-2 : tie.Need-same-length-2
+same-length-2 c = search needs
 
 returns-2 : tie.Need-returns-2
 returns-2 c =
@@ -54,10 +57,11 @@ read-classes-spec =
     tie.close
     (tie.spec
     left-edge-requires
-    slice-write-classes
+    slice-write-shape
     add-read-side
     sub-read-side
     read-side-requires
     same-length
     returns
+    same-length-2
     returns-2)

@@ -10,36 +10,38 @@ use Rattle.lengths.proofs.reader.read_subtree.Statement.{statement}
 use Rattle.lengths.proofs.reader.read_subtree.Tie as tie
 
 abbrev Inv-loop : tie.InvT-loop
-Inv-loop shape at classes₀ p₀ k₀ pending₀ classes p k pending = Amidst shape at k₀ classes₀ p k pending classes
+Inv-loop shape₀ at p₀ k₀ pending₀ shape p k pending = Amidst shape₀ at k₀ p k pending shape
 
 abbrev μ-loop : tie.MeasureT-loop
-μ-loop shape at classes₀ p₀ k₀ pending₀ classes p k pending = length shape - p
+μ-loop shape₀ at p₀ k₀ pending₀ shape p k pending = length shape - p
 
 loop-holds : tie.Need-loop-holds Inv-loop μ-loop
-loop-holds c = amidst-start _ _ _ _
+loop-holds c = amidst-start _ _ _
 
 read-node-requires : tie.Need-read-node-requires Inv-loop μ-loop
 read-node-requires c κs =
     let at-loop-test = c .before in
     let at-loop = at-loop-test .before in
-    let at-start = at-loop .before .before .before in
+    let at-start = at-loop .before .before in
     amidst-ready (at-loop .loop .inv) (at-start .pre) (at-loop-test .loop-test .taken)
 
 add-p : tie.Need-add-p Inv-loop μ-loop
 add-p c =
     let at-loop-test = c .before .before .before .before in
     let at-loop = at-loop-test .before in
-    let at-start = at-loop .before .before .before in
+    let at-start = at-loop .before .before in
     let ready = amidst-ready (at-loop .loop .inv) (at-start .pre) (at-loop-test .loop-test .taken) in
-    omega (arith, node-there (ready .readable) (omega arith), at-start .good)
+    let kept = writing-length (at-loop .loop .inv .writing 0) in
+    omega (arith, node-there (ready .readable) (omega arith), at-start .good, kept)
 
 loop-less : tie.Need-loop-less Inv-loop μ-loop
 loop-less c =
     let at-loop-test = c .before .before .before .before in
     let at-loop = at-loop-test .before in
-    let at-start = at-loop .before .before .before in
+    let at-start = at-loop .before .before in
     let ready = amidst-ready (at-loop .loop .inv) (at-start .pre) (at-loop-test .loop-test .taken) in
-    omega (arith, node-there (ready .readable) (omega arith))
+    let kept = c .before .before .read-node .kept .0 in
+    omega (arith, node-there (ready .readable) (omega arith), kept)
 
 loop-again : tie.Need-loop-again Inv-loop μ-loop
 loop-again c =

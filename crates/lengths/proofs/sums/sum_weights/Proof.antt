@@ -6,10 +6,10 @@ use Rattle.lengths.proofs.sums.sum_weights.Statement.{statement}
 use Rattle.lengths.proofs.sums.sum_weights.Tie as tie
 
 abbrev Inv-loop : tie.InvT-loop
-Inv-loop minus plus n k₀ sum₀ m₀ p₀ k sum m p = Summed minus plus n k sum m p
+Inv-loop minus plus n k₀ sum₀ mn₀ ml₀ pn₀ pl₀ k sum mn ml pn pl = Summed minus plus n k sum mn ml pn pl
 
 abbrev μ-loop : tie.MeasureT-loop
-μ-loop minus plus n k₀ sum₀ m₀ p₀ k sum m p = k
+μ-loop minus plus n k₀ sum₀ mn₀ ml₀ pn₀ pl₀ k sum mn ml pn pl = k
 
 loop-holds : tie.Need-loop-holds Inv-loop μ-loop
 loop-holds c =
@@ -19,17 +19,15 @@ loop-holds c =
 sub-k : tie.Need-sub-k Inv-loop μ-loop
 sub-k c = omega arith
 
-cast-t11 : tie.Need-cast-t11 Inv-loop μ-loop
-cast-t11 c = omega (arith, c .before .loop .inv .within, c .before .loop .inv .few)
+shared-slice-read-x : tie.Need-shared-slice-read-x Inv-loop μ-loop
+shared-slice-read-x c =
+    let inv = c .before .before .loop .inv in
+    omega (arith, inv .within, inv .minus-room)
 
-class-of-requires : tie.Need-class-of-requires Inv-loop μ-loop
-class-of-requires c κs = omega (arith, c .before .loop .inv .within, c .before .loop .inv .minus-room)
-
-cast-t11-2 : tie.Need-cast-t11-2 Inv-loop μ-loop
-cast-t11-2 c = omega (arith, c .before .before .loop .inv .within, c .before .before .loop .inv .few)
-
-class-of-requires-2 : tie.Need-class-of-requires-2 Inv-loop μ-loop
-class-of-requires-2 c κs = omega (arith, c .before .before .loop .inv .within, c .before .before .loop .inv .plus-room)
+shared-slice-read-y : tie.Need-shared-slice-read-y Inv-loop μ-loop
+shared-slice-read-y c =
+    let inv = c .before .before .before .loop .inv in
+    omega (arith, inv .within, inv .plus-room)
 
 kind-requires : tie.Need-kind-requires Inv-loop μ-loop
 kind-requires c κs = search needs
@@ -48,23 +46,15 @@ add-sum c =
     let inv = c .before .before .before .before .before .before .loop .inv in
     omega (arith, inv .bound, inv .few)
 
-before-requires : tie.Need-before-requires Inv-loop μ-loop
-before-requires c κs = search needs
-
-before-requires-2 : tie.Need-before-requires-2 Inv-loop μ-loop
-before-requires-2 c κs = search needs
-
 loop-less : tie.Need-loop-less Inv-loop μ-loop
 loop-less c = omega arith
 
 loop-again : tie.Need-loop-again Inv-loop μ-loop
 loop-again c =
-    let kinds = c .before .before .before in
-    let classes = kinds .before .before in
-    let first = classes .before in
-    sum-more (first .before .before .loop .inv) (kinds .before .kind .result) (kinds .kind2 .result) (omega arith)
-    (omega arith) (first .class-of .ensures) (classes .class-of2 .ensures) (kinds .before .kind .ensures)
-    (kinds .kind2 .ensures) (c .before .before .weight .ensures) (c .before .before2 .ensures) (c .before3 .ensures)
+    let at-kind2 = c .before in
+    let at-kind = at-kind2 .before in
+    sum-more (at-kind .before .before .before .before .loop .inv) (at-kind .kind .result) (at-kind2 .kind2 .result)
+    (omega arith) (omega arith) (at-kind .kind .ensures) (at-kind2 .kind2 .ensures) (c .weight .ensures)
 
 returns : tie.Need-returns Inv-loop μ-loop
 returns c = sum-done (c .before .loop .inv) (omega arith)
@@ -77,17 +67,13 @@ sum-weights-spec =
     μ-loop
     loop-holds
     sub-k
-    cast-t11
-    class-of-requires
-    cast-t11-2
-    class-of-requires-2
+    shared-slice-read-x
+    shared-slice-read-y
     kind-requires
     kind-requires-2
     weight-requires
     cast-sum
     add-sum
-    before-requires
-    before-requires-2
     loop-less
     loop-again
     returns)

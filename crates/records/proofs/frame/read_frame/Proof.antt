@@ -53,7 +53,8 @@ enum-told c = search needs
 returns : tie.Need-returns
 returns c =
     let read = c .before .before in
-    framed-no-first (read .before .before .args .«record» .now) (sym (read .read-field .ensures) ∙ c .enum-told .given .1)
+    framed-no-first (read .before .before .args .«record» .now)
+    (sym (read .read-field .ensures) ∙ c .enum-told .given .1)
 
 add-read-field : tie.Need-add-read-field
 add-read-field c = omega (arith, fits-first (c .before))

@@ -23,7 +23,8 @@ returns c =
     let checked = c .before .before in
     let args = checked .before .before .before .before .args in
     into-refused _
-    (find-refused (formRead (args .s .now)) (checked .check-few .result) (checked .check-few .ensures) (c .enum-told2 .given .1))
+    (find-refused (formRead (args .s .now)) (checked .check-few .result) (checked .check-few .ensures)
+    (c .enum-told2 .given .1))
     (ap verdictOf (c .enum-told2 .given .1))
 
 add-if1 : tie.Need-add-if1
@@ -34,7 +35,8 @@ returns-2 c =
     let checked = c .before .before .before in
     let args = checked .before .before .before .before .args in
     into-short-b (args .b-table .now) (args .a-table .now)
-    (find-accepted (formRead (args .s .now)) (checked .check-few .result) (checked .check-few .ensures) (c .before .enum-told .given .1))
+    (find-accepted (formRead (args .s .now)) (checked .check-few .result) (checked .check-few .ensures)
+    (c .before .enum-told .given .1))
     (c .if1 .taken)
 
 add-if2 : tie.Need-add-if2
@@ -46,7 +48,8 @@ returns-3 c =
     let checked = told .before .before in
     let args = checked .before .before .before .before .args in
     into-short-a (args .b-table .now) (args .a-table .now)
-    (find-accepted (formRead (args .s .now)) (checked .check-few .result) (checked .check-few .ensures) (told .enum-told .given .1))
+    (find-accepted (formRead (args .s .now)) (checked .check-few .result) (checked .check-few .ensures)
+    (told .enum-told .given .1))
     (c .before .if1 .left) (c .if2 .taken)
 
 fill-fields-requires : tie.Need-fill-fields-requires

@@ -18,7 +18,8 @@ starts-requires c κs = search needs
 returns-2 : tie.Need-returns-2
 returns-2 c =
     let args = c .before .before .before .before .args in
-    breaks-p (args .s .now) (args .p) (args .q) (args .index) (args .other) (c .before .before .if1 .left) (c .before .starts .ensures) (c .if2 .taken)
+    breaks-p (args .s .now) (args .p) (args .q) (args .index) (args .other)
+    (c .before .before .if1 .left) (c .before .starts .ensures) (c .if2 .taken)
 
 add-starts-2 : tie.Need-add-starts-2
 add-starts-2 c = search needs
@@ -29,7 +30,9 @@ starts-requires-2 c κs = search needs
 returns-3 : tie.Need-returns-3
 returns-3 c =
     let args = c .before .before .before .before .before .args in
-    breaks-q (args .s .now) (args .p) (args .q) (args .index) (args .other) (c .before .before .before .if1 .left) (c .before .before .starts .ensures) (c .before .if2 .left) (c .starts2 .ensures)
+    breaks-q (args .s .now) (args .p) (args .q) (args .index) (args .other)
+    (c .before .before .before .if1 .left) (c .before .before .starts .ensures)
+    (c .before .if2 .left) (c .starts2 .ensures)
 
 pub broken-spec : {M : Type 1} → statement M
 broken-spec =

@@ -71,7 +71,8 @@ loop-less c =
     let taken = passed .before .before .before .before in
     let loop = taken .before .before .before .before in
     let second = passed .before .before in
-    passed-fewer (loop .loop .p) (loop .loop .q) (second .before .number-at .result) (second .number-at2 .result) (taken .before .before .if1 .taken) (some-a taken)
+    passed-fewer (loop .loop .p) (loop .loop .q) (second .before .number-at .result) (second .number-at2 .result)
+    (taken .before .before .if1 .taken) (some-a taken)
     (passed .before .pass .ensures) (passed .pass2 .ensures)
 
 loop-again : tie.Need-loop-again Inv-loop μ-loop
