@@ -15,13 +15,14 @@ use Rattle.group.proofs.Sizes.{form-index}
 use Rattle.forest.specs.inside.Filling.{cells, room}
 use Rattle.forest.specs.inside.Forest.{Bush, firstBush, laterBushes, rowOfWord, tips, forestTips}
 use Rattle.forest.specs.inside.Cells.{StackStands, Popped}
-use Rattle.forest.specs.inside.Moves.{stepWord}
-use Rattle.forest.specs.inside.Leaves.{Standing, TipRead, bushesOf, Piled, LongTables, LevelsRead}
+use Rattle.forest.specs.inside.Moves.{stepWord, bushesOf, Piled}
+use Rattle.forest.specs.inside.Leaves.{Standing, TipRead, LongTables}
 use Rattle.forest.proofs.Irreducible.{row-irreducible, bushes-tips}
 use Rattle.forest.proofs.ReadOff.{bushesFrom, row-exponent, levels-behind}
 use Rattle.forest.proofs.Counting.{from-tips}
 use Rattle.forest.proofs.Stored.{stack-height, stack-none}
 use Rattle.forest.proofs.Running.{step-length}
+use Rattle.forest.proofs.Zeroing.{LevelsRead}
 
 pub record Emitting (word lefts rights b₀ a₀ stack b a : List ℕ) (height i : ℕ) : Type 0 where
   pub short : length word ≤ limit

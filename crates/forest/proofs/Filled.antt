@@ -51,6 +51,26 @@ fit-judged : (word b a lefts rights stack : List ℕ) → length lefts ≡ cells
 fit-judged word b a lefts rights stack p q r =
     simp (eq-eqb (length lefts) cells p, eq-eqb (length rights) cells q, eq-eqb (length stack) room r)
 
+-- Where the word and the tables are accepted: what the engine asks.
+pub scratch-fit : {word lefts rights stack : List ℕ} (m n : ℕ) → length lefts ≡ cells → length rights ≡ cells
+    → length stack ≡ room → {v : Verdict} → v ≡ Accepted → verdictOf v ≡ dropValue (judged word m n)
+    → Scratch word lefts rights stack
+scratch-fit {word} {lefts} {rights} {stack} m n p q r e f =
+    let (w, g) = drop-accepted (judged word m n) (sym (ap verdictOf e) ∙ f) in
+    record {
+      word-length = accepted-fit word m n w g .short;
+      lefts-length = p;
+      rights-length = q;
+      stack-length = r;
+    }
+
+pub tables-long : {word b a : List ℕ} {v : Verdict} → v ≡ Accepted
+    → verdictOf v ≡ dropValue (judged word (length b) (length a)) → LongTables word b a
+tables-long {word} {b} {a} e f =
+    let (w, g) = drop-accepted (judged word (length b) (length a)) (sym (ap verdictOf e) ∙ f) in
+    let fit = accepted-fit word (length b) (length a) w g in
+    record { b-long = fit .b-long; a-long = fit .a-long }
+
 module _ {word b a lefts rights stack : List ℕ} where
   -- On a refusal all that was lent is kept.
   kept : (r : Filling) (n p : ℕ) → judgedIn word b a lefts rights stack ≡ refused n p → fillingOf r ≡ refused n p
@@ -88,19 +108,6 @@ module _ {word b a lefts rights stack : List ℕ} where
         (fit-judged word b a lefts rights stack p q r
         ∙ drop-refused (judged word (length b) (length a)) (sym (ap verdictOf e) ∙ f))
         refl
-
-    -- Where they are accepted: what the engine asks.
-    pub word-accepted : (v : Verdict) → v ≡ Accepted → verdictOf v ≡ dropValue (judged word (length b) (length a))
-        → Scratch word lefts rights stack × LongTables word b a
-    word-accepted v e f = go (drop-accepted (judged word (length b) (length a)) (sym (ap verdictOf e) ∙ f))
-      where
-        go : (w : Word) × (judged word (length b) (length a) ≡ accepted w)
-            → Scratch word lefts rights stack × LongTables word b a
-        go (w, g) =
-            let fit = accepted-fit word (length b) (length a) w g in (
-              record { word-length = fit .short; lefts-length = p; rights-length = q; stack-length = r },
-              record { b-long = fit .b-long; a-long = fit .a-long },
-            )
 
     -- What the engine leaves.
     pub tables-filled : {b′ a′ lefts′ rights′ stack′ : List ℕ} {n : ℕ} (v : Verdict) → v ≡ Accepted

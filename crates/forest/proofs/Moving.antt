@@ -4,12 +4,12 @@ use mathlib.Core.List.{List, [], _∷_}
 use Prim.Native.Nat.{ℕ}
 use native.Mathlib.Omega.{arith}
 use lib.ListN.{getD}
-use borrow.Author.Tests.{ne-eqb}
+use borrow.Author.Tests.{eq-eqb, ne-eqb}
 use Rattle.group.specs.Letters.{Letter, 'a, 'A, 'b, 'B}
 use Rattle.forest.specs.declared.row.State.{State}
 use Rattle.forest.specs.inside.Forest.{Bush, rightPart, firstBush, laterBushes, Row, row, moveRow}
-use Rattle.forest.specs.inside.Cells.{Stands, StackStands, LeftCode, RightCode, Popped, Pushed, Made}
-use Rattle.forest.specs.inside.Moves.{stepLetter, Held, RaisableRow, Moved}
+use Rattle.forest.specs.inside.Cells.{Stands, StackStands, Popped, Pushed, Parted, Made}
+use Rattle.forest.specs.inside.Moves.{joinLetter, partLetter, stepLetter, Held, RaisableRow, Moved}
 
 -- What keeps each bush keeps a stack of them.
 stack-keeps : (lefts rights lefts′ rights′ : List ℕ) (used used′ : ℕ)
@@ -57,36 +57,30 @@ module _ (lefts rights stack lefts′ rights′ : List ℕ) (s : State) (used bu
 
 module _ (lefts rights stack stack′ : List ℕ) (s : State) (left right height : ℕ) where
   -- The letter A: the second bush was pushed, and the first parted.
-  pub parted-first : Pushed stack (s .height) (s .second) stack′ height → LeftCode lefts (s .first) left
-      → RightCode rights (s .first) right
+  pub parted-first : Pushed stack (s .height) (s .second) stack′ height → Parted lefts rights (s .first) left right
       → Moved 'A lefts rights stack s lefts rights stack′
       (record { used = s .used; height = height; first = left; second = right })
-  parted-first d p q = record { low = omega arith; high = omega arith; moves = moves }
+  parted-first d p = record { low = omega arith; high = omega arith; moves = moves }
     where
       moves : (r : Row) → RaisableRow r → Held lefts rights stack s r
           → Held lefts rights stack′ (record { used = s .used; height = height; first = left; second = right })
           (moveRow 'A r)
-      moves (row x y ts) l (h, k, t) = (
-        p rights (s .used) x (l .0) h,
-        q lefts (s .used) x h,
-        d .puts lefts rights (s .used) y ts k t,
-      )
+      moves (row x y ts) l (h, k, t) =
+          let q = p (s .used) x (l .0) h in
+          (q .0, q .1, d .puts lefts rights (s .used) y ts k t)
 
   -- The letter B.
-  pub parted-second : Pushed stack (s .height) right stack′ height → LeftCode lefts (s .second) left
-      → RightCode rights (s .second) right
+  pub parted-second : Pushed stack (s .height) right stack′ height → Parted lefts rights (s .second) left right
       → Moved 'B lefts rights stack s lefts rights stack′
       (record { used = s .used; height = height; first = s .first; second = left })
-  parted-second d p q = record { low = omega arith; high = omega arith; moves = moves }
+  parted-second d p = record { low = omega arith; high = omega arith; moves = moves }
     where
       moves : (r : Row) → RaisableRow r → Held lefts rights stack s r
           → Held lefts rights stack′ (record { used = s .used; height = height; first = s .first; second = left })
           (moveRow 'B r)
-      moves (row x y ts) l (h, k, t) = (
-        h,
-        p rights (s .used) y (l .1) k,
-        d .puts lefts rights (s .used) (rightPart y) ts (q lefts (s .used) y k) t,
-      )
+      moves (row x y ts) l (h, k, t) =
+          let q = p (s .used) y (l .1) k in
+          (h, q .0, d .puts lefts rights (s .used) (rightPart y) ts (q .1) t)
 
 -- The same letter by another name.
 pub as-letter : {l m : Letter} {lefts rights stack lefts′ rights′ stack′ : List ℕ} {s s′ : State} → l ≡ m
@@ -94,6 +88,18 @@ pub as-letter : {l m : Letter} {lefts rights stack lefts′ rights′ stack′ :
 as-letter {l} {m} {lefts} {rights} {stack} {lefts′} {rights′} {stack′} {s} {s′} e h =
     subst (λ (k : Letter). Moved k lefts rights stack s lefts′ rights′ stack′ s′) e h
 
--- The last of the step's four ways.
-pub last-letter : (c : ℕ) → (c ≡ 97 → ⊥) → (c ≡ 65 → ⊥) → (c ≡ 98 → ⊥) → 'B ≡ stepLetter c
-last-letter c p q r = simp (ne-eqb c 97 p, ne-eqb c 65 q, ne-eqb c 98 r)
+-- The letter of each way of the step.
+pub letter-first : (c : ℕ) → c ≡ 97 → joinLetter c ≡ stepLetter c
+letter-first c p = simp (eq-eqb c 97 p)
+
+pub letter-second : (c : ℕ) → (c ≡ 97 → ⊥) → c ≡ 98 → joinLetter c ≡ stepLetter c
+letter-second c p q = simp (ne-eqb c 97 p, eq-eqb c 98 q)
+
+pub letter-parted : (c : ℕ) → (c ≡ 97 → ⊥) → (c ≡ 98 → ⊥) → partLetter c ≡ stepLetter c
+letter-parted c p q = simp (ne-eqb c 97 p, ne-eqb c 98 q)
+
+pub letter-b : (c : ℕ) → (c ≡ 97 → ⊥) → 'b ≡ joinLetter c
+letter-b c p = simp (ne-eqb c 97 p)
+
+pub letter-B : (c : ℕ) → (c ≡ 65 → ⊥) → 'B ≡ partLetter c
+letter-B c p = simp (ne-eqb c 65 p)

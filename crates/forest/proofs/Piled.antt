@@ -9,26 +9,11 @@ use Rattle.forest.specs.declared.row.State.{State}
 use Rattle.forest.specs.inside.Filling.{cells}
 use Rattle.forest.specs.inside.Forest.{putBush, Row, row, rowBushes, rowOfWord}
 use Rattle.forest.specs.inside.Cells.{StackStands, Pushed}
-use Rattle.forest.specs.inside.Moves.{stepWord, Held, Scratch, Ran}
-use Rattle.forest.specs.inside.Leaves.{Piled, Ended}
+use Rattle.forest.specs.inside.Moves.{stepWord, Held, Piled}
 use Rattle.forest.proofs.Irreducible.{IrreducibleRow, row-irreducible}
 use Rattle.forest.proofs.Counting.{tips-some}
 use Rattle.forest.proofs.Stored.{stack-more, stack-height}
-use Rattle.forest.proofs.Running.{step-length}
-
--- What the loop over the letters leaves is what the read-off asks.
-pub ended : {word lefts rights stack lefts′ rights′ stack′ : List ℕ} {s : State} → Scratch word lefts rights stack
-    → length lefts′ ≡ length lefts → length rights′ ≡ length rights → length stack′ ≡ length stack
-    → Ran word lefts′ rights′ stack′ s → Ended word lefts′ rights′ stack′ s
-ended scratch el er es r = record {
-  scratch = record {
-    word-length = scratch .word-length;
-    lefts-length = el ∙ scratch .lefts-length;
-    rights-length = er ∙ scratch .rights-length;
-    stack-length = es ∙ scratch .stack-length;
-  };
-  ran = r;
-}
+use Rattle.forest.proofs.Running.{step-length, Ended}
 
 row-height : (n : ℕ) (r : Row) (lefts rights stack : List ℕ) (s : State) → IrreducibleRow n r
     → Held lefts rights stack s r → s .height ≤ n
@@ -40,7 +25,7 @@ low-height {word} {lefts} {rights} {stack} {s} e =
     let w = stepWord word in
     omega (
       arith,
-      row-height (length w) (rowOfWord w) lefts rights stack s (row-irreducible w) (e .ran .held),
+      row-height (length w) (rowOfWord w) lefts rights stack s (row-irreducible w) (e .held),
       step-length word,
       e .scratch .word-length,
     )
@@ -65,6 +50,6 @@ ended-piled {word} {lefts} {rights} {stack} {stack′} {stack″} {s} {low} {hei
     stack-length = g ∙ f ∙ e .scratch .stack-length;
   };
   stack-stands =
-      row-piled (rowOfWord (stepWord word)) lefts rights stack stack′ stack″ s low height (e .ran .used-high)
-      (e .ran .held) p q;
+      row-piled (rowOfWord (stepWord word)) lefts rights stack stack′ stack″ s low height (e .used-high)
+      (e .held) p q;
 }

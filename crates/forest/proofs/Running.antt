@@ -12,7 +12,7 @@ use Rattle.forest.specs.declared.row.State.{State}
 use Rattle.forest.specs.inside.Filling.{cells}
 use Rattle.forest.specs.inside.Forest.{Bush, tip, fork, Row, row, rowOfWord}
 use Rattle.forest.specs.inside.Cells.{Raisable}
-use Rattle.forest.specs.inside.Moves.{stepLetter, stepWord, Held, RaisableRow, Ready, Moved, Scratch, Ran}
+use Rattle.forest.specs.inside.Moves.{stepLetter, stepWord, Held, RaisableRow, Ready, Moved, Scratch}
 use Rattle.forest.proofs.Irreducible.{Irreducible, IrreducibleRow, row-irreducible}
 use Rattle.forest.proofs.Counting.{tips-some}
 use Rattle.forest.proofs.Stored.{stands-below, stack-height}
@@ -111,11 +111,18 @@ module _ {word lefts rights stack : List ℕ} {s : State} {i : ℕ}
         (r .held));
   }
 
+-- The scratch, with the row of the word in it.
+pub record Ended (word lefts rights stack : List ℕ) (s : State) : Type 0 where
+  pub scratch : Scratch word lefts rights stack
+  pub used-high : s .used ≤ cells
+  pub held : Held lefts rights stack s (rowOfWord (stepWord word))
+
 pub run-ends : {word lefts rights stack : List ℕ} {s : State} {i : ℕ} → Running word lefts rights stack s i → i ≤ 0
-    → Ran word lefts rights stack s
+    → Ended word lefts rights stack s
 run-ends {word} {lefts} {rights} {stack} {s} {i} r p =
     let e : i ≡ 0 = omega arith in
     record {
+      scratch = r .scratch;
       used-high = omega (arith, r);
       held = subst (λ (j : ℕ). Held lefts rights stack s (rowOfWord (readFrom word j))) e (r .held);
     }

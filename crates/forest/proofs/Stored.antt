@@ -8,7 +8,7 @@ use lib.Seq.{getD-set-same}
 use borrow.Author.Needs.{read-below}
 use Rattle.group.specs.Limits.{limit}
 use Rattle.forest.specs.inside.Forest.{Bush, tip, fork, putBush, forestTips}
-use Rattle.forest.specs.inside.Cells.{Stands, StackStands, LeftCode, RightCode, Popped, Pushed}
+use Rattle.forest.specs.inside.Cells.{Stands, StackStands, Popped, Pushed, Parted}
 use Rattle.forest.proofs.Counting.{tips-some}
 
 module _ (lefts rights : List ℕ) where
@@ -102,22 +102,16 @@ push-some stack height bush p some = record { high = omega arith; puts = puts }
     puts lefts rights used (fork x y) ts h s = stack-push lefts rights used (fork x y) ts stack height bush p h s
 
 -- The parts of a bush; k is the code as an index.
-pub left-tip : (lefts : List ℕ) (code : ℕ) → code ≤ limit → LeftCode lefts code (code + 1)
-left-tip lefts code p rights used (tip n) l h = (omega (arith, h .0), omega arith)
-left-tip lefts code p rights used (fork x y) l h = absurd (omega (arith, h .0))
+pub parted-tip : (lefts rights : List ℕ) (code : ℕ) → code ≤ limit → Parted lefts rights code (code + 1) 0
+parted-tip lefts rights code p used (tip n) l h = ((omega (arith, h .0), omega arith), (refl, omega arith))
+parted-tip lefts rights code p used (fork x y) l h = absurd (omega (arith, h .0))
 
-pub left-fork : (lefts : List ℕ) (code k : ℕ) → limit < code → k ≡ code → LeftCode lefts code (getD lefts k 0)
-left-fork lefts code k p e rights used (tip n) l h = absurd (omega (arith, h .0, h .1))
-left-fork lefts code k p e rights used (fork x y) l h =
-    stands-more lefts rights code used x (getD lefts k 0) (omega (arith, h .1))
-    (subst (λ (j : ℕ). Stands lefts rights code x (getD lefts j 0)) (sym e) (h .2))
-
-pub right-tip : (rights : List ℕ) (code : ℕ) → code ≤ limit → RightCode rights code 0
-right-tip rights code p lefts used (tip n) h = (refl, omega arith)
-right-tip rights code p lefts used (fork x y) h = absurd (omega (arith, h .0))
-
-pub right-fork : (rights : List ℕ) (code k : ℕ) → limit < code → k ≡ code → RightCode rights code (getD rights k 0)
-right-fork rights code k p e lefts used (tip n) h = absurd (omega (arith, h .0, h .1))
-right-fork rights code k p e lefts used (fork x y) h =
-    stands-more lefts rights code used y (getD rights k 0) (omega (arith, h .1))
-    (subst (λ (j : ℕ). Stands lefts rights code y (getD rights j 0)) (sym e) (h .3))
+pub parted-fork : (lefts rights : List ℕ) (code k : ℕ) → limit < code → k ≡ code
+    → Parted lefts rights code (getD lefts k 0) (getD rights k 0)
+parted-fork lefts rights code k p e used (tip n) l h = absurd (omega (arith, h .0, h .1))
+parted-fork lefts rights code k p e used (fork x y) l h = (
+  stands-more lefts rights code used x (getD lefts k 0) (omega (arith, h .1))
+      (subst (λ (j : ℕ). Stands lefts rights code x (getD lefts j 0)) (sym e) (h .2)),
+  stands-more lefts rights code used y (getD rights k 0) (omega (arith, h .1))
+      (subst (λ (j : ℕ). Stands lefts rights code y (getD rights j 0)) (sym e) (h .3)),
+)

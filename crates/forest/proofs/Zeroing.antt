@@ -5,13 +5,21 @@ use mathlib.Core.List.{List}
 use Prim.Native.Nat.{ℕ, _+_, _≤_}
 use native.Mathlib.Omega.{arith}
 use lib.ListN.{set, length}
+use Rattle.lists.specs.Tables.{filled}
 use Rattle.lists.proofs.Tables.{filled-more}
-use Rattle.group.specs.Forms.{bSide, aSide, exponent}
+use Rattle.group.specs.Forms.{Side, bSide, aSide, exponent}
 use Rattle.group.specs.Products.{formOf}
 use Rattle.group.proofs.Reduced.{form-trimmed}
 use Rattle.group.proofs.Sizes.{trimmed-levels}
 use Rattle.forest.specs.inside.Moves.{stepWord}
-use Rattle.forest.specs.inside.Leaves.{LongTables, LevelsRead, ZerosPut, Tabled}
+use Rattle.forest.specs.inside.Leaves.{LongTables, ZerosPut, Tabled}
+
+-- The first levels of the form were written into the tables; no index behind them occurs.
+pub record LevelsRead (word b a b′ a′ : List ℕ) (read : ℕ) : Type 0 where
+  pub within : read ≤ length word + 1
+  pub behind : (s : Side) (i : ℕ) → read ≤ i → exponent s (formOf (stepWord word)) i ≡ 0
+  pub b-table : b′ ≡ filled read (exponent bSide (formOf (stepWord word))) b
+  pub a-table : a′ ≡ filled read (exponent aSide (formOf (stepWord word))) a
 
 pub zeros-none : (t : List ℕ) (low : ℕ) → ZerosPut t low low t
 zeros-none t low f u p z e = e
@@ -32,3 +40,10 @@ levels-tabled {word} {b} {a} {b′} {a′} {b″} {a″} {read} long l y z =
       a-table = z (exponent aSide form) a (long .a-long) (l .behind aSide) (l .a-table);
       levels-read = (trimmed-levels form read (form-trimmed (stepWord word)) (l .behind), l .within);
     }
+
+-- Every entry was read: there are none to put.
+pub all-tabled : {word b a b′ a′ : List ℕ} {read : ℕ} → LongTables word b a → LevelsRead word b a b′ a′ read
+    → read ≡ length word + 1 → Tabled word b a b′ a′ read
+all-tabled {word} {b} {a} {b′} {a′} {read} long l e =
+    levels-tabled long l (zeros-ends b′ b′ read (length word + 1) read e (zeros-none b′ read))
+    (zeros-ends a′ a′ read (length word + 1) read e (zeros-none a′ read))

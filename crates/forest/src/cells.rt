@@ -6,7 +6,7 @@ ghost use Prim.Native.Nat.{_≤_, _<_};
 ghost use lib.ListN.{length};
 ghost use Rattle.group.specs.Limits.{limit};
 ghost use Rattle.forest.specs.inside.Filling.{cells};
-ghost use Rattle.forest.specs.inside.Cells.{LeftCode, RightCode, Popped, Pushed, Made};
+ghost use Rattle.forest.specs.inside.Cells.{Popped, Pushed, Parted, Made};
 use refusals::LIMIT;
 
 // The last code of a tip.
@@ -16,6 +16,12 @@ pub const LAST_TIP: u16 = LIMIT as u16;
 pub struct Top {
     pub bush: u16,
     pub height: usize,
+}
+
+// The two parts of a bush.
+pub struct Parts {
+    pub left: u16,
+    pub right: u16,
 }
 
 // A bush that was made, and the next cell.
@@ -60,26 +66,22 @@ pub fn push(stack: &mut [u16], height: usize, bush: u16) -> usize
     height + 1
 }
 
-// The left part of a bush.
-pub fn left_of(lefts: &[u16], bush: u16) -> u16
-    requires { ⌜ (bush < length (now lefts)) × (length (now lefts) ≡ cells) ⌝ }
-    ensures { λ r. ⌜ LeftCode (now (lefts .entry)) bush r ⌝ }
+// The two parts of a bush.
+pub fn part(lefts: &[u16], rights: &[u16], bush: u16) -> Parts
+    requires { ⌜ (bush < length (now lefts)) × (bush < length (now rights)) × (length (now lefts) ≡ cells) ⌝ }
+    ensures { λ r. ⌜ Parted (now (lefts .entry)) (now (rights .entry)) bush (r .left) (r .right) ⌝ }
 {
     if bush <= LAST_TIP {
-        return bush + 1;
+        return Parts {
+            left: bush + 1,
+            right: 0,
+        };
     }
-    lefts[wide(bush)]
-}
-
-// The right part of a bush.
-pub fn right_of(rights: &[u16], bush: u16) -> u16
-    requires { ⌜ (bush < length (now rights)) × (length (now rights) ≡ cells) ⌝ }
-    ensures { λ r. ⌜ RightCode (now (rights .entry)) bush r ⌝ }
-{
-    if bush <= LAST_TIP {
-        return 0;
+    let k = wide(bush);
+    Parts {
+        left: lefts[k],
+        right: rights[k],
     }
-    rights[wide(bush)]
 }
 
 // Two bushes under one fork: a tip where the fork is taken away, else a new cell.

@@ -1,15 +1,12 @@
 // The tips of a row, read off into two tables: the exponents of the word's reduced form.
 ghost use Prim.Native.Nat.{_≤_, _<_};
 ghost use lib.ListN.{length};
-ghost use Rattle.forest.specs.inside.Moves.{Scratch};
-ghost use Rattle.forest.specs.inside.Leaves.{Standing, TipRead, StemPassed, Piled, Ended, LongTables};
-ghost use Rattle.forest.specs.inside.Leaves.{LevelsRead, ZerosPut, Tabled};
+ghost use Rattle.forest.specs.inside.Moves.{Piled};
+ghost use Rattle.forest.specs.inside.Leaves.{Standing, TipRead, StemPassed, LongTables, ZerosPut, Tabled};
 use crate::cells::LAST_TIP;
 use crate::cells::pop;
 use crate::cells::push;
 use crate::cells::wide;
-use crate::row::State;
-use crate::row::run;
 
 // The first tip of a bush: the left edges above it, its exponent, and the height of the stack with the bushes behind.
 pub struct Tip {
@@ -64,39 +61,6 @@ fn descend(lefts: &[u16], rights: &[u16], stack: &mut [u16], bush: u16, low: usi
     }
 }
 
-// The tips on the stack, from the left, are the levels of the form; where it is empty, only tips of exponent 0 are
-// left. How many levels were read.
-fn read_tips(
-    word: &[u8],
-    low: usize,
-    lefts: &[u16],
-    rights: &[u16],
-    stack: &mut [u16],
-    b_table: &mut [u16],
-    a_table: &mut [u16],
-) -> usize
-    requires { ⌜ Piled (now word) (now lefts) (now rights) (now stack) low ⌝ }
-    requires { ⌜ LongTables (now word) (now «b_table») (now «a_table») ⌝ }
-    ensures { λ r. ⌜ LevelsRead (now (word .entry)) (now («b_table» .entry)) (now («a_table» .entry))
-        (now («b_table» .exit)) (now («a_table» .exit)) r ⌝ }
-{
-    let n = word.len();
-    let mut height = low;
-    let mut i = 0;
-    while i <= n {
-        if height == 0 {
-            return i;
-        }
-        let p = pop(stack, height);
-        let l = descend(lefts, rights, stack, p.bush, p.height);
-        b_table[i] = l.edges;
-        a_table[i] = l.exponent;
-        height = l.height;
-        i += 1;
-    }
-    i
-}
-
 // The entries from `low` on, up to `high`, become 0.
 fn zero_rest(table: &mut [u16], low: usize, high: usize)
     requires { ⌜ (low ≤ high) × (high ≤ length (now table)) ⌝ }
@@ -109,44 +73,37 @@ fn zero_rest(table: &mut [u16], low: usize, high: usize)
     }
 }
 
-// The tips of the row, and behind them the zeros of the indices that do not occur. How many levels were read.
-fn read_off(
+// The tips on the stack, from the left, are the levels of the form; where it is empty, only tips of exponent 0 are
+// left, and the indices behind do not occur. How many levels were read.
+pub fn read_off(
     word: &[u8],
-    s: State,
+    low: usize,
     lefts: &[u16],
     rights: &[u16],
     stack: &mut [u16],
     b_table: &mut [u16],
     a_table: &mut [u16],
 ) -> usize
-    requires { ⌜ Ended (now word) (now lefts) (now rights) (now stack) s ⌝ }
+    requires { ⌜ Piled (now word) (now lefts) (now rights) (now stack) low ⌝ }
     requires { ⌜ LongTables (now word) (now «b_table») (now «a_table») ⌝ }
     ensures { λ r. ⌜ Tabled (now (word .entry)) (now («b_table» .entry)) (now («a_table» .entry))
         (now («b_table» .exit)) (now («a_table» .exit)) r ⌝ }
 {
-    let low = push(stack, s.height, s.second);
-    let height = push(stack, low, s.first);
-    let read = read_tips(word, height, lefts, rights, stack, b_table, a_table);
     let end = word.len() + 1;
-    zero_rest(b_table, read, end);
-    zero_rest(a_table, read, end);
-    read
-}
-
-// The tables of a word: its row, then the tips. The scratch is lent with any content. How many levels were read.
-pub fn fill(
-    word: &[u8],
-    b_table: &mut [u16],
-    a_table: &mut [u16],
-    lefts: &mut [u16],
-    rights: &mut [u16],
-    stack: &mut [u16],
-) -> usize
-    requires { ⌜ Scratch (now word) (now lefts) (now rights) (now stack) ⌝ }
-    requires { ⌜ LongTables (now word) (now «b_table») (now «a_table») ⌝ }
-    ensures { λ r. ⌜ Tabled (now (word .entry)) (now («b_table» .entry)) (now («a_table» .entry))
-        (now («b_table» .exit)) (now («a_table» .exit)) r ⌝ }
-{
-    let s = run(word, lefts, rights, stack);
-    read_off(word, s, lefts, rights, stack, b_table, a_table)
+    let mut height = low;
+    let mut i = 0;
+    while i < end {
+        if height == 0 {
+            zero_rest(b_table, i, end);
+            zero_rest(a_table, i, end);
+            return i;
+        }
+        let p = pop(stack, height);
+        let l = descend(lefts, rights, stack, p.bush, p.height);
+        b_table[i] = l.edges;
+        a_table[i] = l.exponent;
+        height = l.height;
+        i += 1;
+    }
+    i
 }

@@ -49,6 +49,7 @@ pub fn fill_tables(
     if let Verdict::Refused(r) = v {
         return Filling::Refused(r);
     }
-    let read = leaves::fill(word, b_table, a_table, lefts, rights, stack);
+    let height = row::run(word, lefts, rights, stack);
+    let read = leaves::read_off(word, height, lefts, rights, stack, b_table, a_table);
     Filling::Filled(read)
 }

@@ -2,7 +2,7 @@
 -- Assumes nothing.
 use borrow.Author.Needs.{needs}
 use Rattle.forest.proofs.Filled.{unfit-lefts, unfit-rights, unfit-stack}
-use Rattle.forest.proofs.Filled.{word-refused, word-accepted, tables-filled}
+use Rattle.forest.proofs.Filled.{word-refused, scratch-fit, tables-long, tables-filled}
 use Rattle.forest.proofs.fill_tables.Statement.{statement}
 use Rattle.forest.proofs.fill_tables.Tie as tie
 
@@ -34,15 +34,23 @@ returns-4 c =
 enum-told : tie.Need-enum-told
 enum-told c = search needs
 
-fill-requires : tie.Need-fill-requires
-fill-requires c κs =
-    let at-enum-told = c .before .before .before .before .before in
+run-requires : tie.Need-run-requires
+run-requires c κs =
+    let at-enum-told = c .before .before .before in
     let at-judge = at-enum-told .before .before in
     let at-if3 = at-judge .before in
     let at-if2 = at-if3 .before in
     let at-if1 = at-if2 .before in
-    word-accepted (at-if1 .if1 .left) (at-if2 .if2 .left) (at-if3 .if3 .left) (at-judge .judge .result)
-    (at-enum-told .enum-told .given .1) (at-judge .judge .ensures)
+    scratch-fit _ _ (at-if1 .if1 .left) (at-if2 .if2 .left) (at-if3 .if3 .left) (at-enum-told .enum-told .given .1)
+    (at-judge .judge .ensures)
+
+read-off-requires : tie.Need-read-off-requires
+read-off-requires c κs =
+    let at-slice-known8 = c .before .before .before .before .before in
+    let at-run = at-slice-known8 .before .before .before .before .before .before in
+    let at-enum-told = at-run .before .before .before .before in
+    let at-judge = at-enum-told .before .before in
+    (at-run .run .ensures, tables-long (at-enum-told .enum-told .given .1) (at-judge .judge .ensures))
 
 same-length : tie.Need-same-length
 same-length c = search needs
@@ -61,15 +69,16 @@ same-length-5 c = search needs
 
 returns-5 : tie.Need-returns-5
 returns-5 c =
-    let at-lefts = c .before .before .before .before .before in
-    let at-fill = at-lefts .before .before .before .before .before in
-    let at-enum-told = at-fill .before .before .before .before .before .before in
+    let at-read-off = c .before .before .before .before .before .before in
+    let at-slice-known8 = at-read-off .before .before .before .before .before .before in
+    let at-run = at-slice-known8 .before .before .before .before .before .before in
+    let at-enum-told = at-run .before .before .before .before in
     let at-judge = at-enum-told .before .before in
     let at-if3 = at-judge .before in
     let at-if2 = at-if3 .before in
     let at-if1 = at-if2 .before in
     tables-filled (at-if1 .if1 .left) (at-if2 .if2 .left) (at-if3 .if3 .left) (at-judge .judge .result)
-    (at-enum-told .enum-told .given .1) (at-judge .judge .ensures) (at-fill .fill .ensures)
+    (at-enum-told .enum-told .given .1) (at-judge .judge .ensures) (at-read-off .read-off .ensures)
 
 pub fill-tables-spec : {M : Type 1} → statement M
 fill-tables-spec =
@@ -82,7 +91,8 @@ fill-tables-spec =
     enum-known-v
     returns-4
     enum-told
-    fill-requires
+    run-requires
+    read-off-requires
     same-length
     same-length-2
     same-length-3

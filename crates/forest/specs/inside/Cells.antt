@@ -32,20 +32,13 @@ abbrev pub Raisable : Bush → Type 0
 Raisable (tip n) = n < limit
 Raisable (fork x y) = Unit {0}
 
--- The answer is a code of the left part of each bush that the code stands for.
-abbrev pub LeftCode : (lefts : List ℕ) (code answer : ℕ) → Type 0
-LeftCode lefts code answer =
-    (rights : List ℕ) (used : ℕ) (t : Bush)
+-- The answers are codes of the two parts of each bush that the code stands for.
+abbrev pub Parted : (lefts rights : List ℕ) (code left right : ℕ) → Type 0
+Parted lefts rights code left right =
+    (used : ℕ) (t : Bush)
     → Raisable t
     → Stands lefts rights used t code
-    → Stands lefts rights used (leftPart t) answer
-
--- The same of the right part.
-abbrev pub RightCode : (rights : List ℕ) (code answer : ℕ) → Type 0
-RightCode rights code answer =
-    (lefts : List ℕ) (used : ℕ) (t : Bush)
-    → Stands lefts rights used t code
-    → Stands lefts rights used (rightPart t) answer
+    → Stands lefts rights used (leftPart t) left × Stands lefts rights used (rightPart t) right
 
 -- The first bush of the stack was taken.
 abbrev pub Popped : (stack : List ℕ) (height bush height′ : ℕ) → Type 0

@@ -4,14 +4,13 @@ use mathlib.Core.List.{List}
 use Prim.Native.Nat.{ℕ, _+_, _-_, _≤_}
 use lib.ListN.{length}
 use Rattle.lists.specs.Tables.{filled}
-use Rattle.group.specs.Forms.{Side, bSide, aSide, exponent, levels}
+use Rattle.group.specs.Forms.{bSide, aSide, exponent, levels}
 use Rattle.group.specs.Products.{formOf}
-use Rattle.forest.specs.declared.row.State.{State}
 use Rattle.forest.specs.inside.Filling.{cells, room}
-use Rattle.forest.specs.inside.Forest.{Bush, rowBushes, rowOfWord, tipEdges, tipExponent, bushesBehind}
+use Rattle.forest.specs.inside.Forest.{Bush, tipEdges, tipExponent, bushesBehind}
 use Rattle.forest.specs.inside.Forest.{tips, forestTips}
 use Rattle.forest.specs.inside.Cells.{Stands, StackStands}
-use Rattle.forest.specs.inside.Moves.{stepWord, Scratch, Ran}
+use Rattle.forest.specs.inside.Moves.{stepWord}
 
 -- A code stands for a bush and the stack for the bushes behind it, and the stack has room for all their tips.
 pub record Standing (lefts rights stack : List ℕ) (code height : ℕ) : Type 0 where
@@ -64,31 +63,10 @@ abbrev pub StemPassed : (lefts rights : List ℕ) (whole height code : ℕ) → 
 StemPassed lefts rights whole height code =
     (stack : List ℕ) → Walking lefts rights stack whole height stack code (whole - code) height
 
--- The scratch, with the row of the word in it.
-pub record Ended (word lefts rights stack : List ℕ) (s : State) : Type 0 where
-  pub scratch : Scratch word lefts rights stack
-  pub ran : Ran word lefts rights stack s
-
--- The bushes of the row of bytes, from the left.
-abbrev pub bushesOf : List ℕ → List Bush
-bushesOf word = rowBushes (rowOfWord (stepWord word))
-
--- The scratch, with all these bushes on the stack.
-pub record Piled (word lefts rights stack : List ℕ) (height : ℕ) : Type 0 where
-  pub scratch : Scratch word lefts rights stack
-  pub stack-stands : StackStands lefts rights cells (bushesOf word) stack height
-
 -- Tables with an entry for each index up to the number of letters.
 pub record LongTables (word b a : List ℕ) : Type 0 where
   pub b-long : length word + 1 ≤ length b
   pub a-long : length word + 1 ≤ length a
-
--- The first levels of the form were written into the tables; no index behind them occurs.
-pub record LevelsRead (word b a b′ a′ : List ℕ) (read : ℕ) : Type 0 where
-  pub within : read ≤ length word + 1
-  pub behind : (s : Side) (i : ℕ) → read ≤ i → exponent s (formOf (stepWord word)) i ≡ 0
-  pub b-table : b′ ≡ filled read (exponent bSide (formOf (stepWord word))) b
-  pub a-table : a′ ≡ filled read (exponent aSide (formOf (stepWord word))) a
 
 -- Of a function that is 0 from `low` on: a table that was filled below `low` is filled below `high`.
 abbrev pub ZerosPut : (table : List ℕ) (low high : ℕ) (table′ : List ℕ) → Type 0

@@ -9,12 +9,20 @@ use Rattle.group.specs.Letters.{Letter, 'a, 'A, 'b, 'B, Word}
 use Rattle.group.specs.Limits.{limit}
 use Rattle.forest.specs.declared.row.State.{State}
 use Rattle.forest.specs.inside.Filling.{cells, room}
-use Rattle.forest.specs.inside.Forest.{Row, row, moveRow, rowOfWord}
+use Rattle.forest.specs.inside.Forest.{Bush, Row, row, rowBushes, moveRow, rowOfWord}
 use Rattle.forest.specs.inside.Cells.{Stands, StackStands, Raisable}
+
+-- How `joined` treats a byte: as b where it is not a.
+abbrev pub joinLetter : ℕ → Letter
+joinLetter c = cond (eqb c 97) 'a 'b
+
+-- How `parted` treats a byte: as B where it is not A.
+abbrev pub partLetter : ℕ → Letter
+partLetter c = cond (eqb c 65) 'A 'B
 
 -- How `step` treats a byte: as B where it is none of a, A, b. The engine runs on words only, whose bytes are letters.
 abbrev pub stepLetter : ℕ → Letter
-stepLetter c = cond (eqb c 97) 'a (cond (eqb c 65) 'A (cond (eqb c 98) 'b 'B))
+stepLetter c = cond (eqb c 97) (joinLetter c) (cond (eqb c 98) (joinLetter c) (partLetter c))
 
 -- How `run` treats bytes.
 abbrev pub stepWord : List ℕ → Word
@@ -57,7 +65,11 @@ pub record Scratch (word lefts rights stack : List ℕ) : Type 0 where
   pub rights-length : length rights ≡ cells
   pub stack-length : length stack ≡ room
 
--- The scratch holds the row of the word.
-pub record Ran (word lefts rights stack : List ℕ) (s : State) : Type 0 where
-  pub used-high : s .used ≤ cells
-  pub held : Held lefts rights stack s (rowOfWord (stepWord word))
+-- The bushes of the row of bytes, from the left.
+abbrev pub bushesOf : List ℕ → List Bush
+bushesOf word = rowBushes (rowOfWord (stepWord word))
+
+-- The scratch, with all these bushes on the stack.
+pub record Piled (word lefts rights stack : List ℕ) (height : ℕ) : Type 0 where
+  pub scratch : Scratch word lefts rights stack
+  pub stack-stands : StackStands lefts rights cells (bushesOf word) stack height

@@ -1,7 +1,8 @@
--- `row::run` meets its contract: the loop of `Running`, from the last letter to the first.
+-- `row::run` meets its contract: the loop of `Running`, from the last letter to the first, then two bushes.
 -- Assumes nothing.
 use native.Mathlib.Omega.{arith}
 use Rattle.forest.proofs.Running.{Running, run-starts, run-ready, run-more, run-ends}
+use Rattle.forest.proofs.Piled.{low-height, ended-piled}
 use Rattle.forest.proofs.row.run.Statement.{statement}
 use Rattle.forest.proofs.row.run.Tie as tie
 
@@ -11,8 +12,8 @@ Inv-loop word lefts₀ rights₀ stack₀ s₀ i₀ lefts rights stack s i = Run
 abbrev μ-loop : tie.MeasureT-loop
 μ-loop word lefts₀ rights₀ stack₀ s₀ i₀ lefts rights stack s i = i
 
-add-t7 : tie.Need-add-t7 Inv-loop μ-loop
-add-t7 c = omega arith
+add-t8 : tie.Need-add-t8 Inv-loop μ-loop
+add-t8 c = omega arith
 
 loop-holds : tie.Need-loop-holds Inv-loop μ-loop
 loop-holds c = run-starts (c .before .before .before .before .pre)
@@ -38,6 +39,17 @@ loop-again c =
     run-more (turn .before .loop .inv) (omega arith) (same .0) (same .1 .0) (same .1 .1 .0)
     (call .step .ensures)
 
+push-requires : tie.Need-push-requires Inv-loop μ-loop
+push-requires c κs =
+    let e = run-ends (c .before .before .loop .inv) (omega arith) in
+    omega (arith, low-height e, e .scratch .stack-length)
+
+push-requires-2 : tie.Need-push-requires-2 Inv-loop μ-loop
+push-requires-2 c κs =
+    let at-push = c .before .before .before in
+    let e = run-ends (at-push .before .before .before .loop .inv) (omega arith) in
+    omega (arith, low-height e, e .scratch .stack-length, at-push .push .ensures .high, at-push .push .kept .0)
+
 same-length : tie.Need-same-length Inv-loop μ-loop
 same-length c = omega arith
 
@@ -48,7 +60,13 @@ same-length-3 : tie.Need-same-length-3 Inv-loop μ-loop
 same-length-3 c = omega arith
 
 returns : tie.Need-returns Inv-loop μ-loop
-returns c = run-ends (c .before .loop .inv) (omega arith)
+returns c =
+    let at-push2 = c .before .before in
+    let at-push = at-push2 .before .before .before .before in
+    let e = run-ends (at-push .before .before .before .loop .inv) (omega arith) in
+    let one = at-push .push in
+    let two = at-push2 .push2 in
+    ended-piled e (one .kept .0) (two .kept .0) (one .ensures) (two .ensures)
 
 pub run-spec : {M : Type 1} → statement M
 run-spec =
@@ -56,13 +74,15 @@ run-spec =
     (tie.spec
     Inv-loop
     μ-loop
-    add-t7
+    add-t8
     loop-holds
     sub-i
     shared-slice-read-step
     step-requires
     loop-less
     loop-again
+    push-requires
+    push-requires-2
     same-length
     same-length-2
     same-length-3

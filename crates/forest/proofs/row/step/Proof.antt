@@ -1,14 +1,12 @@
--- `row::step` meets its contract: each way of the branch is the letter of its byte.
+-- `row::step` meets its contract: a and b join, all else parts.
 -- Assumes nothing.
-use mathlib.Core.Path.{sym, ap}
 use borrow.Author.Needs.{needs}
-use Rattle.forest.specs.inside.Moves.{stepLetter}
-use Rattle.forest.proofs.Moving.{as-letter, last-letter}
+use Rattle.forest.proofs.Moving.{as-letter, letter-first, letter-second, letter-parted}
 use Rattle.forest.proofs.row.step.Statement.{statement}
 use Rattle.forest.proofs.row.step.Tie as tie
 
-join-first-requires : tie.Need-join-first-requires
-join-first-requires c κs = search needs
+joined-requires : tie.Need-joined-requires
+joined-requires c κs = search needs
 
 same-length : tie.Need-same-length
 same-length c = search needs
@@ -22,10 +20,11 @@ same-length-3 c = search needs
 returns : tie.Need-returns
 returns c =
     let call = c .before .before .before .before in
-    as-letter (ap stepLetter (sym (call .before .before .before .before .if1 .taken))) (call .join-first .ensures)
+    let test = call .before .before .before .before in
+    as-letter (letter-first _ (test .if1 .taken)) (call .joined .ensures)
 
-part-first-requires : tie.Need-part-first-requires
-part-first-requires c κs = search needs
+joined-requires-2 : tie.Need-joined-requires-2
+joined-requires-2 c κs = search needs
 
 same-length-4 : tie.Need-same-length-4
 same-length-4 c = search needs
@@ -38,11 +37,12 @@ same-length-6 c = search needs
 
 returns-2 : tie.Need-returns-2
 returns-2 c =
-    let call = c .before .before in
-    as-letter (ap stepLetter (sym (call .before .before .before .before .if2 .taken))) (call .part-first .ensures)
+    let call = c .before .before .before .before in
+    let test = call .before .before .before .before in
+    as-letter (letter-second _ (test .before .if1 .left) (test .if2 .taken)) (call .joined2 .ensures)
 
-join-second-requires : tie.Need-join-second-requires
-join-second-requires c κs = search needs
+parted-requires : tie.Need-parted-requires
+parted-requires c κs = search needs
 
 same-length-7 : tie.Need-same-length-7
 same-length-7 c = search needs
@@ -55,50 +55,26 @@ same-length-9 c = search needs
 
 returns-3 : tie.Need-returns-3
 returns-3 c =
-    let call = c .before .before .before .before in
-    as-letter (ap stepLetter (sym (call .before .before .before .before .if3 .taken))) (call .join-second .ensures)
-
-part-second-requires : tie.Need-part-second-requires
-part-second-requires c κs = search needs
-
-same-length-10 : tie.Need-same-length-10
-same-length-10 c = search needs
-
-same-length-11 : tie.Need-same-length-11
-same-length-11 c = search needs
-
-same-length-12 : tie.Need-same-length-12
-same-length-12 c = search needs
-
-returns-4 : tie.Need-returns-4
-returns-4 c =
     let call = c .before .before in
-    let tests = call .before .before .before .before in
-    let x = tests .before .before .before .before .before .before .args .byte in
-    as-letter (last-letter x (tests .before .before .if1 .left) (tests .before .if2 .left) (tests .if3 .left))
-    (call .part-second .ensures)
+    let test = call .before .before .before .before in
+    as-letter (letter-parted _ (test .before .if1 .left) (test .if2 .left)) (call .parted .ensures)
 
 pub step-spec : {M : Type 1} → statement M
 step-spec =
     tie.close
     (tie.spec
-    join-first-requires
+    joined-requires
     same-length
     same-length-2
     same-length-3
     returns
-    part-first-requires
+    joined-requires-2
     same-length-4
     same-length-5
     same-length-6
     returns-2
-    join-second-requires
+    parted-requires
     same-length-7
     same-length-8
     same-length-9
-    returns-3
-    part-second-requires
-    same-length-10
-    same-length-11
-    same-length-12
-    returns-4)
+    returns-3)
