@@ -1,5 +1,6 @@
 // Word to record: the time of the proved library against that of a plain Rust program that keeps two arrays.
-// First both are compared, byte for byte, on every word that is measured and on many more; then both are timed.
+// First both are compared, byte for byte, on every word that is measured and on many more; then both are timed. With
+// `--cfg beside` another archive takes the place of the plain program.
 
 mod plain;
 mod words;
@@ -13,8 +14,21 @@ const RUNS: usize = 11;
 const ENTRIES: usize = LIMIT + 1;
 const BYTES: usize = 6 + 4 * LIMIT;
 
+type Export = unsafe extern "C" fn(*const u8, usize, *mut u16, usize, *mut u16, usize, *mut u8, usize) -> Answer;
+
 extern "C" {
     fn thompson_word_to_record(
+        word: *const u8,
+        word_len: usize,
+        b: *mut u16,
+        b_len: usize,
+        a: *mut u16,
+        a_len: usize,
+        record: *mut u8,
+        record_len: usize,
+    ) -> Answer;
+    #[cfg(beside)]
+    fn beside_word_to_record(
         word: *const u8,
         word_len: usize,
         b: *mut u16,
@@ -28,9 +42,11 @@ extern "C" {
 
 type Call = fn(&[u8], &mut [u16], &mut [u16], &mut [u8]) -> Answer;
 
-fn library(word: &[u8], b: &mut [u16], a: &mut [u16], record: &mut [u8]) -> Answer {
+// A call of an archive on slices.
+#[inline(always)]
+fn on_slices(f: Export, word: &[u8], b: &mut [u16], a: &mut [u16], record: &mut [u8]) -> Answer {
     unsafe {
-        thompson_word_to_record(
+        f(
             word.as_ptr(),
             word.len(),
             b.as_mut_ptr(),
@@ -41,6 +57,21 @@ fn library(word: &[u8], b: &mut [u16], a: &mut [u16], record: &mut [u8]) -> Answ
             record.len(),
         )
     }
+}
+
+fn library(word: &[u8], b: &mut [u16], a: &mut [u16], record: &mut [u8]) -> Answer {
+    on_slices(thompson_word_to_record, word, b, a, record)
+}
+
+// The program beside the library: the plain one, or another archive.
+#[cfg(not(beside))]
+const OTHER: (&str, Call) = ("plain", plain::word_to_record);
+#[cfg(beside)]
+const OTHER: (&str, Call) = ("other", other_library);
+
+#[cfg(beside)]
+fn other_library(word: &[u8], b: &mut [u16], a: &mut [u16], record: &mut [u8]) -> Answer {
+    on_slices(beside_word_to_record, word, b, a, record)
 }
 
 // What is lent with a word.
@@ -64,10 +95,10 @@ impl Lent {
 // Both programs on one word: the same answer, and the same in all that is lent, beyond the record and the form too.
 fn compare(word: &[u8], l: &mut Lent, p: &mut Lent) -> Answer {
     let x = l.call(library, word);
-    let y = p.call(plain::word_to_record, word);
+    let y = p.call(OTHER.1, word);
     if x != y || l != p {
         println!("different at {}", String::from_utf8_lossy(word));
-        println!("library {x:?}, plain {y:?}");
+        println!("library {x:?}, {} {y:?}", OTHER.0);
         std::process::exit(1);
     }
     x
@@ -152,7 +183,12 @@ fn main() {
     println!();
     println!(
         "{:<24}{:>7}{:>9}{:>14}{:>12}{:>8}  compared",
-        "set", "words", "letters", "library us", "plain us", "ratio"
+        "set",
+        "words",
+        "letters",
+        "library us",
+        format!("{} us", OTHER.0),
+        "ratio"
     );
     for set in words::sets(LIMIT) {
         let mut l = Lent::new(ENTRIES, ENTRIES, BYTES);
@@ -161,13 +197,13 @@ fn main() {
             compare(word, &mut l, &mut p);
         }
         let mut of_library = Vec::new();
-        let mut of_plain = Vec::new();
+        let mut of_other = Vec::new();
         for _ in 0..RUNS {
             of_library.push(time(library, &set, &mut l));
-            of_plain.push(time(plain::word_to_record, &set, &mut p));
+            of_other.push(time(OTHER.1, &set, &mut p));
         }
         let x = median(of_library);
-        let y = median(of_plain);
+        let y = median(of_other);
         println!(
             "{:<24}{:>7}{:>9}{:>14.2}{:>12.2}{:>8.3}  same bytes",
             set.name,
