@@ -26,6 +26,8 @@ pub mod Actions
 pub mod Slope
 pub mod Unique
 pub mod Theorems
+-- powers of generators in front of a word
+pub mod Powers
 -- reducing steps; inverses; sizes
 pub mod Reducing
 pub mod NoStep

@@ -31,11 +31,11 @@ raise-sound : (f : Form) → spellLevels (reduceLevel 0 0 f) ≈ σ (spellLevels
 raise-sound f = reduce-level-sound 0 0 f ⟫ ≈-path (append-nil (σ (spellLevels f)))
 
 -- x_0 or its inverse, and x_k or its inverse, by shifts.
-abbrev signed0 : Side → Word
+abbrev pub signed0 : Side → Word
 signed0 bSide = 'a ∷ []
 signed0 aSide = 'A ∷ []
 
-abbrev signed : Side → ℕ → Word
+abbrev pub signed : Side → ℕ → Word
 signed s k = σs k (signed0 s)
 
 x0-sound : (s : Side) (f : Form) → (signed s 0 ++ spellLevels f) ≈ spellLevels (timesX0 s f)
@@ -67,7 +67,7 @@ past-power s k (suc n) t =
     (≈-path (ap (λ (g : Word). σ g ++ (replicate n 'a ++ t)) (sym (σs-out k (signed0 s))))
     ⟫ past-power s (suc k) n t ⟫ ≈-path (ap (λ (j : ℕ). replicate n 'a ++ (σ (signed s j) ++ t)) e))
 
-times-sound : (s : Side) (k : ℕ) (f : Form) → (signed s k ++ spellLevels f) ≈ spellLevels (timesGenerator s k f)
+pub times-sound : (s : Side) (k : ℕ) (f : Form) → (signed s k ++ spellLevels f) ≈ spellLevels (timesGenerator s k f)
 times-sound s k empty = ≈-path (append-nil (signed s k)) ⟫ single-sound s k
 times-sound s zero (level b a f) = x0-sound s (level b a f)
 times-sound s (suc k) (level b a f) =

@@ -69,7 +69,7 @@ single-canonical : (s : Side) (k : ℕ) → Canonical (single s k)
 single-canonical s zero = x0-canonical s empty empty-canonical
 single-canonical s (suc k) = reduce-level-canonical 0 0 (single s k) (single-canonical s k)
 
-times-canonical : (s : Side) (k : ℕ) (f : Form) → Canonical f → Canonical (timesGenerator s k f)
+pub times-canonical : (s : Side) (k : ℕ) (f : Form) → Canonical f → Canonical (timesGenerator s k f)
 times-canonical s k empty c = single-canonical s k
 times-canonical s zero (level b a f) c = x0-canonical s (level b a f) c
 times-canonical s (suc k) (level b a f) c =

@@ -6,12 +6,13 @@ pub mod FreeReduction
 pub mod Chains
 pub mod Points
 pub mod Maps
--- forms, the infinite presentation, reducing, products
+-- forms, the infinite presentation, reducing, products; powers
 pub mod Forms
 pub mod UpTo
 pub mod Presentations
 pub mod Reducing
 pub mod Products
+pub mod Powers
 -- the limit; words written as texts and as bytes
 pub mod Limits
 pub mod Texts

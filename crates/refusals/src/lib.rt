@@ -34,6 +34,12 @@ pub enum Refusal {
     ShortBuffer,
     // A spelling with more letters than the limit.
     LongSpelling,
+    // A misspelled token of a text, or one whose index is above the limit, with its offset.
+    Misspelled(usize),
+    // Exponents of a text whose sizes sum above the limit.
+    LargeExponents,
+    // A text whose reduced form has an index above the limit.
+    HighIndex,
 }
 
 // Accepted or refused: the answer of calls that write nothing.
@@ -68,6 +74,9 @@ pub fn number(r: Refusal) -> u8
         Refusal::ShortTable => 6,
         Refusal::ShortBuffer => 7,
         Refusal::LongSpelling => 8,
+        Refusal::Misspelled(_) => 9,
+        Refusal::LargeExponents => 10,
+        Refusal::HighIndex => 11,
     }
 }
 
@@ -84,6 +93,9 @@ pub fn place(r: Refusal) -> usize
         Refusal::ShortTable => 0,
         Refusal::ShortBuffer => 0,
         Refusal::LongSpelling => 0,
+        Refusal::Misspelled(offset) => offset,
+        Refusal::LargeExponents => 0,
+        Refusal::HighIndex => 0,
     }
 }
 

@@ -7,6 +7,7 @@ use lib.Dec.{lit<}
 use Rattle.refusals.specs.declared.Refusal.{Refusal}
 use Rattle.refusals.specs.declared.Refusal.the-variants.{TooManyLetters, NotLetter, BadFrame, BadEntry}
 use Rattle.refusals.specs.declared.Refusal.the-variants.{NotReduced, ShortTable, ShortBuffer, LongSpelling}
+use Rattle.refusals.specs.declared.Refusal.the-variants.{Misspelled, LargeExponents, HighIndex}
 use Rattle.refusals.specs.declared.Verdict.{Verdict}
 use Rattle.refusals.specs.declared.Verdict.the-variants as Verdicts
 use Rattle.refusals.specs.declared.Reply.{Reply}
@@ -33,6 +34,9 @@ number-some (NotReduced i) = (lit< tt, lit< tt)
 number-some ShortTable = (lit< tt, lit< tt)
 number-some ShortBuffer = (lit< tt, lit< tt)
 number-some LongSpelling = (lit< tt, lit< tt)
+number-some (Misspelled offset) = (lit< tt, lit< tt)
+number-some LargeExponents = (lit< tt, lit< tt)
+number-some HighIndex = (lit< tt, lit< tt)
 
 -- So it is read as a refusal, and the word beside it is parted from it.
 read-number : (n place : ℕ) → 0 < n → readOutcome n place ≡ refused n place
