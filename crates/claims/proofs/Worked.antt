@@ -29,7 +29,7 @@ use Rattle.lengths.specs.Weights.{formLength}
 use Rattle.spelling.specs.Spelling.{spelling}
 use Rattle.spelling.specs.Contracts.{wordIn}
 use Rattle.words.specs.Recording.{encodeWord}
-use Rattle.rows.specs.Text.{ascii, decimalWithin}
+use Rattle.numerals.specs.Decimals.{ascii, decimalWithin}
 use Rattle.rows.specs.Receipts.{outputOf}
 use Rattle.claims.specs.Worked.{unreduced, unreducedRecord, deadEnd, deadEndRecord, Measures, IsSpelled}
 use Rattle.claims.specs.Worked.{Worked, WorkedForms}

@@ -33,7 +33,7 @@ use Rattle.lengths.specs.Weights.{weight, formLength}
 use Rattle.spelling.specs.Spelling.{spelling}
 use Rattle.spelling.specs.Contracts.{spelledIn}
 use Rattle.words.specs.Recording.{encodeWord}
-use Rattle.rows.specs.Text.{ascii}
+use Rattle.numerals.specs.Decimals.{ascii}
 use Rattle.rows.specs.Receipts.{outputOf}
 
 -- The text is a word, and f is the form of that word.

@@ -7,9 +7,10 @@ use lib.ListN.{length, length-append}
 use Rattle.lines.specs.Lines.{lineFeed}
 use Rattle.lists.specs.inside.Writes.{Wrote}
 use Rattle.lists.proofs.Writes.{write-then, wrote-same}
-use Rattle.rows.specs.Text.{decimal, hexOf}
+use Rattle.numerals.specs.Decimals.{decimal}
+use Rattle.rows.specs.Text.{hexOf}
 use Rattle.rows.specs.inside.Steps.{numberThen, numberSize, fourNumbers, numbersSize, recordRow}
-use Rattle.rows.proofs.Decimals.{decimal-length}
+use Rattle.numerals.proofs.Decimals.{decimal-length}
 
 -- A field with the byte behind it, then the rest.
 pub write-field : {s t u : List ℕ} {i j r : ℕ} (field : List ℕ) (behind : ℕ) (rest : List ℕ)

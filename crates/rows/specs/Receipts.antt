@@ -14,7 +14,8 @@ use Rattle.records.specs.Format.{encode, bufferSize}
 use Rattle.trees.specs.Pairs.{caretsOf}
 use Rattle.lengths.specs.Weights.{formLength}
 use Rattle.letters.specs.Judging.{lineRead}
-use Rattle.rows.specs.Text.{ascii, decimal, hexOf}
+use Rattle.numerals.specs.Decimals.{ascii, decimal}
+use Rattle.rows.specs.Text.{hexOf}
 
 -- One space parts the fields of a line, and byte 0A hex ends it.
 abbrev pub joinFields : List (List ℕ) → List ℕ

@@ -5,7 +5,8 @@ ghost use Prim.Native.Nat.{_+_, _*_, _≤_, _<_};
 ghost use lib.ListN.{length};
 ghost use Rattle.io.specs.Digits.{glyph};
 ghost use Rattle.lists.specs.inside.Writes.{Wrote};
-ghost use Rattle.rows.specs.Text.{decimal, hexOf};
+ghost use Rattle.numerals.specs.Decimals.{decimal};
+ghost use Rattle.rows.specs.Text.{hexOf};
 ghost use Rattle.rows.specs.inside.Steps.{numberSize};
 
 // All bytes of a text.

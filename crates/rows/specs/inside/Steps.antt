@@ -8,7 +8,8 @@ use Rattle.records.specs.Format.{bufferSize}
 use Rattle.trees.specs.inside.Writing.{tableCarets}
 use Rattle.lengths.specs.inside.Contracts.{tableLength}
 use Rattle.words.specs.Recording.{Memory}
-use Rattle.rows.specs.Text.{decimal, hexOf}
+use Rattle.numerals.specs.Decimals.{decimal}
+use Rattle.rows.specs.Text.{hexOf}
 use Rattle.rows.specs.Receipts.{joinFields}
 
 -- The value of an outcome; 0 where there is none.

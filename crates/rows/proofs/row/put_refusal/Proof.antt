@@ -6,7 +6,7 @@ use borrow.Author.Needs.{needs}
 use Rattle.lists.proofs.Writes.{write-then, wrote-same}
 use Rattle.lines.specs.Lines.{lineFeed}
 use Rattle.refusals.specs.Refusals.{numberOf}
-use Rattle.rows.specs.Text.{decimal}
+use Rattle.numerals.specs.Decimals.{decimal}
 use Rattle.rows.specs.inside.Steps.{numberThen}
 use Rattle.rows.proofs.Fields.{write-field, number-end}
 use Rattle.rows.proofs.row.put_refusal.Statement.{statement}

@@ -4,7 +4,7 @@ use native.Mathlib.Omega.{arith}
 use lib.ListN.{length}
 use borrow.Author.Needs.{needs}
 use Rattle.lists.proofs.Writes.{wrote-same}
-use Rattle.rows.proofs.Decimals.{digits-found, decimal-length}
+use Rattle.numerals.proofs.Decimals.{digits-found, decimal-length}
 use Rattle.rows.proofs.text.put_decimal.Statement.{statement}
 use Rattle.rows.proofs.text.put_decimal.Tie as tie
 

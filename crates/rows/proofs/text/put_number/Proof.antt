@@ -4,7 +4,7 @@ use mathlib.Core.List.{[], _∷_}
 use native.Mathlib.Omega.{arith}
 use borrow.Author.Needs.{needs}
 use Rattle.lists.proofs.Writes.{write-then}
-use Rattle.rows.proofs.Decimals.{decimal-length}
+use Rattle.numerals.proofs.Decimals.{decimal-length}
 use Rattle.rows.proofs.text.put_number.Statement.{statement}
 use Rattle.rows.proofs.text.put_number.Tie as tie
 

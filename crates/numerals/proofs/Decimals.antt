@@ -9,7 +9,7 @@ use lib.ListN.{length, length-append}
 use lib.Dec.{ltb}
 use borrow.Author.Tests.{lt-ltb, le-ltb, ltb-false}
 use Rattle.io.specs.Digits.{glyph, digits, Fewest}
-use Rattle.rows.specs.Text.{decimalWithin, decimal}
+use Rattle.numerals.specs.Decimals.{decimalWithin, decimal}
 
 -- No power of ten is 0.
 pow-pos : (k : ℕ) → 1 ≤ 10 ^ k

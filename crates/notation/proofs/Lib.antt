@@ -1,0 +1,1 @@
+-- Laws of the two calls on subscript notation.

@@ -1,0 +1,2 @@
+-- The contracts of the two calls on subscript notation.
+pub mod Contracts

@@ -1,0 +1,1 @@
+// Subscript notation: read into a record, and written from one.

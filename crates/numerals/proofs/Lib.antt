@@ -1,0 +1,2 @@
+-- Laws of decimal numerals.
+pub mod Decimals

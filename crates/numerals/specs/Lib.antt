@@ -1,0 +1,2 @@
+-- Text as bytes, and decimal numerals.
+pub mod Decimals

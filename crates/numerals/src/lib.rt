@@ -1,0 +1,1 @@
+// Decimal numerals, in specs/ and proofs/. No running code.
