@@ -5,3 +5,4 @@ pub mod Cells
 pub mod Moves
 pub mod Leaves
 pub mod Filling
+pub mod FillingPowers

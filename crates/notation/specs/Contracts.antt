@@ -1,5 +1,5 @@
 -- Texts in subscript notation, read into a record and written from one (02, [1]), on every input.
---     judgedText o nb na nr    the powers of a text, beside tables and a buffer of these lengths, or what is refused
+--     judgedText o m           what a text is read as, beside the memory m, or what is refused
 --     TextRecorded t m m′ r    the contract of `text_to_record`: refusals 9, 10, 11, 6 and 7, in this order
 --     textIn s out             the text of the record s, beside a buffer, or what is refused
 --     TextWritten s t t′ r     the contract of `record_to_text`: refusals 3, 4, 5 and 7, in this order
@@ -7,45 +7,32 @@
 use mathlib.Core.Path.{_≡_}
 use mathlib.Core.Bool.{cond}
 use mathlib.Core.List.{List}
-use Prim.Native.Nat.{ℕ, suc}
+use Prim.Native.Nat.{ℕ}
 use lib.ListN.{length}
 use lib.Dec.{ltb}
 use lib.Seq.{sets}
-use Rattle.lists.specs.Tables.{filled}
-use Rattle.group.specs.Forms.{Side, bSide, aSide, Form, exponent, levels}
-use Rattle.group.specs.Limits.{limit}
-use Rattle.group.specs.Products.{formOf}
-use Rattle.group.specs.Powers.{SignedPower, productLetters, exponentSizes, formPowers}
+use Rattle.group.specs.Forms.{bSide, aSide, Form}
+use Rattle.group.specs.Powers.{SignedPower, exponentSizes, formPowers}
 use Rattle.refusals.specs.Outcomes.{Outcome, accepted, refused, after, then, valued, replyOf}
 use Rattle.refusals.specs.Placing.{fitting, Placed}
 use Rattle.refusals.specs.declared.Reply.{Reply}
 use Rattle.fields.specs.Fields.{Bytes}
 use Rattle.records.specs.Format.{encode, bufferSize}
 use Rattle.records.specs.Reading.{decode}
+use Rattle.forest.specs.Filling.{productForm, tablesFor, productTable}
 use Rattle.words.specs.Recording.{Memory}
 use Rattle.tokens.specs.Texts.{textOf}
 use Rattle.tokens.specs.Reading.{TextRead}
 
--- The reduced form of a product of powers, each read through its letters.
-abbrev pub productForm : List SignedPower → Form
-productForm ps = formOf (productLetters ps)
-
--- Powers beside tables and a buffer of these lengths: 11 where their form has an index above the limit; 6 where a table
--- has fewer entries than the limit and one; 7 where the buffer is too short for as many entries as the exponents sum to.
+-- Powers beside tables and a buffer of these lengths: 11 and 6, then 7 where the buffer is too short for as many entries
+-- as the exponents sum to.
 abbrev pub roomFor : (nb na nr : ℕ) → List SignedPower → Outcome (List SignedPower)
 roomFor nb na nr ps =
-    cond (ltb (suc limit) (levels (productForm ps))) (refused 11 0)
-    (cond (ltb nb (suc limit)) (refused 6 0)
-    (cond (ltb na (suc limit)) (refused 6 0)
-    (cond (ltb nr (bufferSize (exponentSizes ps))) (refused 7 0) (accepted ps))))
+    then (tablesFor nb na ps) (λ qs. cond (ltb nr (bufferSize (exponentSizes qs))) (refused 7 0) (accepted qs))
 
 -- What was read, beside the memory that is lent with it.
 abbrev pub judgedText : Outcome (List SignedPower) → Memory → Outcome (List SignedPower)
 judgedText o m = then o (roomFor (length (m .b)) (length (m .a)) (length (m .buffer)))
-
--- A table at exit: entry i is the exponent of index i for each i up to the limit; everything beyond is unchanged.
-abbrev pub tableAfter : Side → Outcome (List SignedPower) → List ℕ → List ℕ
-tableAfter s o t = after o t (λ ps. filled (suc limit) (exponent s (productForm ps)) t)
 
 -- For every text and whatever is lent with it: the value is the number of bytes of the record, which stands at the front
 -- of the buffer.
@@ -53,8 +40,8 @@ pub record TextRecorded (t : List ℕ) (entry exit : Memory) (r : Reply) : Type 
   pub found : Outcome (List SignedPower)
   pub reads : TextRead t found
   pub result : replyOf r ≡ valued (λ ps. length (encode (productForm ps))) (judgedText found entry)
-  pub b-table : exit .b ≡ tableAfter bSide (judgedText found entry) (entry .b)
-  pub a-table : exit .a ≡ tableAfter aSide (judgedText found entry) (entry .a)
+  pub b-table : exit .b ≡ productTable bSide (judgedText found entry) (entry .b)
+  pub a-table : exit .a ≡ productTable aSide (judgedText found entry) (entry .a)
   pub bytes : exit .buffer
       ≡ after (judgedText found entry) (entry .buffer) (λ ps. sets (entry .buffer) 0 (encode (productForm ps)))
 
