@@ -26,13 +26,13 @@ pub mod Actions
 pub mod Slope
 pub mod Unique
 pub mod Theorems
--- powers of generators in front of a word
-pub mod Powers
 -- reducing steps; inverses; sizes
 pub mod Reducing
 pub mod NoStep
 pub mod ReducingEnds
 pub mod Exchange
 pub mod Sizes
+-- powers of generators in front of a word
+pub mod Powers
 -- words as bytes
 pub mod Bytes

@@ -50,6 +50,11 @@ times-adds s (suc k) (level b a f) (suc n) g h =
       times-adds s (k + b) f n (omega arith) (omega arith),
     )
 
+-- It adds at most one to the sum of the exponents.
+pub times-sum : (s : Side) (k : ℕ) (f : Form) → exponentSum (timesGenerator s k f) ≤ suc (exponentSum f)
+times-sum s k f =
+    times-adds s k f (suc (levels f) + suc (k + exponentSum f)) (omega arith) (omega arith) .sum
+
 letter-adds : (x : Letter) (f : Form) (n : ℕ) → levels f ≤ suc n → exponentSum f ≤ n
     → Adds (suc (suc n)) f (timesLetter x f)
 letter-adds 'a f n g h = times-adds bSide 0 f (suc (suc n)) (omega arith) (omega arith)
