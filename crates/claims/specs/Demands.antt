@@ -1,12 +1,14 @@
--- Demands 1, 2 and 3 on the six calls, over the calls' contracts; proofs/Demands.antt has the proofs. The demands as
+-- Demands 1, 2 and 3 on the eight calls, over the calls' contracts; proofs/Demands.antt has the proofs. The demands as
 -- they were set are quoted in docs/DECISIONS.md. crates/calls/specs/Demanded.antt says the same of the functions, with
 -- no contract in it.
 -- What need not be believed: contracts (the first group below) stand left of the arrows only. Each function is proved
 -- to meet its contract (crate `calls`), so a reader has to believe what stands on the right, and the order in which a
--- function's `ensures` hands its arguments to the contract. The demands bind the six calls of 01, their exports too.
+-- function's `ensures` hands its arguments to the contract. The demands bind the six calls of 01 and the two of 02, [1],
+-- their exports too.
 -- `Unfit`, which functions inside may answer, is met by none of them.
--- Letters: u, v bytes lent as a word; w, x words; s bytes lent as a record; m, k memory lent with a word; p, q buffers
--- for shapes; t a buffer for letters; f, g a form or a call; a ′ marks the same memory at exit.
+-- Letters: u, v bytes lent as a word; w, x words; s bytes lent as a record; m, k memory lent with a word or a text; p, q
+-- buffers for shapes; t bytes lent as a text, or a buffer for letters; ps powers; f, g a form or a call; a ′ marks the
+-- same memory at exit.
 -- Contracts, and the crate and file that define each:
 --     Recorded u m m′ r           word_to_record                                                  words, Recording
 --     Checked s r                 check_record                                                    records, Checking
@@ -14,9 +16,12 @@
 --     Measured s r                record_to_length                                                pairs, Contracts
 --     Spelled s t t′ r            record_to_word                                                  spelling, Contracts
 --     Compared u m m′ v k k′ r    same_element                                                    words, Comparing
+--     TextRecorded t m m′ r       text_to_record                                                  notation, Contracts
+--     TextWritten s t t′ r        record_to_text                                                  notation, Contracts
 -- Calls and answers:
---     WordCall w, recordBy f      an accepted call on the word w; the record that it wrote        claims, Calls
---     SpellingCall, PairCall, LengthCall s, TwoWordCall u v, ExportedCall w     the other kinds   claims, Calls
+--     WordCall w, TextCall ps     an accepted call on the bytes of w, on the text of powers ps    claims, Calls
+--     CallOn w, recordBy f        one of both, on the word w; the record that it wrote            claims, Calls
+--     SpellingCall, PhraseCall, PairCall, LengthCall s, TwoWordCall u v, ExportedCall w           claims, Calls
 --     Reply, Verdict              answer types; replyOf, verdictOf: their outcomes                refusals, Outcomes
 --     Comparison, decisionOf      the answer on two words; same, different, or a refused word     words, Comparing
 -- On the right sides:
@@ -24,9 +29,13 @@
 --     RefusesWords d R S          the same of two words                                           claims, Answers
 --     IsRefused o, WordRefused d  some refusal; None R: no refusal's condition holds              claims, Answers
 --     WordRefusal, RecordRefusal, PairRefusal, SpellingRefusal    the conditions, one by one      claims, Refusals
+--     TextRefusal, PhraseRefusal  the same of a text; of a record that is to be written as text   claims, Refusals
 --     NoWordRefusal u m           none of 1, 2, 6 and 7 holds: the word is accepted               claims, Refusals
 --     ShortTable, ShortBuffer u m the condition of 6, of 7                                        claims, Refusals
+--     NoTextRefusal, ShortTables, ShortRecord    the same of texts: 9, 10, 11, 6 and 7            claims, Refusals
 --     RecordOfWord, PairOfRecord, LengthOfRecord, WordOfRecord    what a call gives               claims, Given
+--     RecordOfText, TextOfRecord  the same of the calls on texts                                  claims, Given
+--     textOf ps, AllInRange ps    the text of powers; indices and exponents are allowed           tokens, Texts, Tokens
 --     IsRecord s f                s is the record of the form f                                   records, Format
 --     Word, bytesOf w             a string of letters; its bytes, one a letter                    group, Letters, Bytes
 --     Joined w x                  a chain of steps, each with one of eight strings, joins w to x  group, Chains
@@ -41,6 +50,7 @@ use Rattle.group.specs.Letters.{Word}
 use Rattle.group.specs.Bytes.{bytesOf}
 use Rattle.group.specs.Chains.{Joined}
 use Rattle.group.specs.Forms.{Form}
+use Rattle.group.specs.Powers.{SignedPower}
 use Rattle.refusals.specs.Outcomes.{accepted, verdictOf, replyOf}
 use Rattle.refusals.specs.declared.Verdict.{Verdict}
 use Rattle.refusals.specs.declared.Reply.{Reply}
@@ -48,18 +58,25 @@ use Rattle.records.specs.Format.{IsRecord}
 use Rattle.records.specs.Checking.{Checked}
 use Rattle.pairs.specs.Contracts.{Paired, Measured}
 use Rattle.spelling.specs.Contracts.{Spelled}
+use Rattle.tokens.specs.Tokens.{AllInRange}
+use Rattle.tokens.specs.Texts.{textOf}
+use Rattle.notation.specs.Contracts.{TextRecorded, TextWritten}
 use Rattle.words.specs.Recording.{Memory, Recorded}
 use Rattle.words.specs.Comparing.{Compared, decisionOf, same, different}
 use Rattle.words.specs.declared.Comparison.{Comparison}
 use Rattle.claims.specs.Refusals.{WordRefusal, NoWordRefusal, ShortTable, ShortBuffer}
 use Rattle.claims.specs.Refusals.{RecordRefusal, PairRefusal, SpellingRefusal}
+use Rattle.claims.specs.Refusals.{TextRefusal, NoTextRefusal, ShortTables, ShortRecord, PhraseRefusal}
 use Rattle.claims.specs.Answers.{Refuses, IsRefused, IsAccepted, RefusesWords, WordRefused, None}
-use Rattle.claims.specs.Calls.{WordCall, recordBy, SpellingCall, spelledBy, PairCall, LengthCall, TwoWordCall}
+use Rattle.claims.specs.Calls.{WordCall, TextCall, CallOn, recordBy, MemoryCall, writtenBy}
+use Rattle.claims.specs.Calls.{SpellingCall, spelledBy, PhraseCall, phrasedBy, PairCall, LengthCall, TwoWordCall}
 use Rattle.claims.specs.Calls.{ExportedCall, exportedRecord}
 use Rattle.claims.specs.Given.{RecordOfWord, PairOfRecord, LengthOfRecord, WordOfRecord}
+use Rattle.claims.specs.Given.{RecordOfText, TextOfRecord}
 
 -- Demand 1: each refusal is given under its condition and at no other time, and alters nothing that was lent. A word is
--- accepted when no condition of 1, 2, 6 or 7 holds, and the check accepts just the records of forms.
+-- accepted when no condition of 1, 2, 6 or 7 holds, a text when none of 9, 10, 11, 6 or 7 does, and the check accepts
+-- just the records of forms.
 pub record Demand1 : Type 0 where
   pub word-to-record : (u : List ℕ) (m m′ : Memory) (r : Reply) → Recorded u m m′ r
       → Refuses (replyOf r) (WordRefusal u m) × (IsRefused (replyOf r) → m′ ≡ m)
@@ -76,11 +93,18 @@ pub record Demand1 : Type 0 where
   pub accepted-word : (u : List ℕ) (m : Memory) → NoWordRefusal u m ↔ None (WordRefusal u m)
   pub accepted-record : (s : List ℕ) (r : Verdict) → Checked s r
       → IsAccepted (verdictOf r) ↔ ((f : Form) × IsRecord s f)
+  pub text-to-record : (t : List ℕ) (m m′ : Memory) (r : Reply) → TextRecorded t m m′ r
+      → Refuses (replyOf r) (TextRefusal t m) × (IsRefused (replyOf r) → m′ ≡ m)
+  pub record-to-text : (s t t′ : List ℕ) (r : Reply) → TextWritten s t t′ r
+      → Refuses (replyOf r) (PhraseRefusal s (length t)) × (IsRefused (replyOf r) → t′ ≡ t)
+  pub accepted-text : (t : List ℕ) (m : Memory) → NoTextRefusal t m ↔ None (TextRefusal t m)
 
 -- Demand 2: the bytes of an accepted word are those of one word, and its record has that word's map. A record gives the
 -- tree pair, the length and the spelling of its form. The spelling is joined to every word with that record, and is
 -- accepted as a word where tables and buffer are long enough, with that record again. The two-word call, where it
--- answers, leaves the memory of each word as that word's own call does.
+-- answers, leaves the memory of each word as that word's own call does. The bytes of an accepted text are the text of
+-- one list of powers, and its record has the map of their letters. The text that is written for a record is accepted
+-- where tables and buffer are long enough, with that record again.
 pub record Demand2 : Type 0 where
   pub is-word : (u : List ℕ) (m m′ : Memory) (r : Reply) (n : ℕ) → Recorded u m m′ r → replyOf r ≡ accepted n
       → (w : Word) × (u ≡ bytesOf w)
@@ -90,18 +114,30 @@ pub record Demand2 : Type 0 where
   pub gives-length : (s : List ℕ) (f : LengthCall s) → LengthOfRecord s (f .count)
   pub gives-word : (s t t′ : List ℕ) (r : Reply) → Spelled s t t′ r → None (RecordRefusal s)
       → WordOfRecord s t t′ (replyOf r)
-  pub joined : (w x : Word) (f : WordCall w) (g : SpellingCall (recordBy f)) → spelledBy g ≡ bytesOf x → Joined x w
+  pub joined : (w x : Word) (f : CallOn w) (g : SpellingCall (recordBy f)) → spelledBy g ≡ bytesOf x → Joined x w
   pub accepted-again : (s : List ℕ) (g : SpellingCall s) (m : Memory) → (ShortTable (spelledBy g) m → ⊥)
       → (ShortBuffer (spelledBy g) m → ⊥) → NoWordRefusal (spelledBy g) m
-  pub record-again : (s : List ℕ) (g : SpellingCall s) (x : Word) (f : WordCall x) → spelledBy g ≡ bytesOf x
+  pub record-again : (s : List ℕ) (g : SpellingCall s) (x : Word) (f : CallOn x) → spelledBy g ≡ bytesOf x
       → recordBy f ≡ s
   pub leaves-both : (u v : List ℕ) (f : TwoWordCall u v)
       → ((r : Reply) × Recorded u (f .lent1) (f .left1) r) × ((r : Reply) × Recorded v (f .lent2) (f .left2) r)
 
--- Demand 3: two accepted words have equal records, as many bytes and the same byte at each place, just when a chain
--- joins them, whatever the lent memory held; so it is of the exported call; and the two-word call decides it.
+  pub is-text : (t : List ℕ) (m m′ : Memory) (r : Reply) (n : ℕ) → TextRecorded t m m′ r → replyOf r ≡ accepted n
+      → (ps : List SignedPower) × AllInRange ps × (t ≡ textOf ps)
+  pub one-list : (ps qs : List SignedPower) → AllInRange ps → AllInRange qs → textOf ps ≡ textOf qs → ps ≡ qs
+  pub text-keeps-map : (ps : List SignedPower) → AllInRange ps → (f : TextCall ps)
+      → RecordOfText (f .lent) (f .left) (f .count) ps
+  pub gives-text : (s : List ℕ) (g : PhraseCall s) → TextOfRecord s (g .lent) (g .left) (g .count)
+  pub text-accepted-again : (s : List ℕ) (g : PhraseCall s) (m : Memory) → (ShortTables m → ⊥)
+      → (ShortRecord (phrasedBy g) m → ⊥) → NoTextRefusal (phrasedBy g) m
+  pub text-record-again : (s : List ℕ) (g : PhraseCall s) (f : MemoryCall (TextRecorded (phrasedBy g)))
+      → writtenBy f ≡ s
+
+-- Demand 3: two accepted words, each sent in letters or in subscript notation, have equal records, as many bytes and the
+-- same byte at each place, just when a chain joins them, whatever the lent memory held; so it is of the exported calls;
+-- and the two-word call decides it.
 pub record Demand3 : Type 0 where
-  pub equal-just-when-joined : (w x : Word) (f : WordCall w) (g : WordCall x) → (recordBy f ≡ recordBy g) ↔ Joined w x
+  pub equal-just-when-joined : (w x : Word) (f : CallOn w) (g : CallOn x) → (recordBy f ≡ recordBy g) ↔ Joined w x
   pub exported-just-when-joined : (w x : Word) (f : ExportedCall w) (g : ExportedCall x)
       → (exportedRecord f ≡ exportedRecord g) ↔ Joined w x
   pub same-just-when-joined : (w x : Word) (f : TwoWordCall (bytesOf w) (bytesOf x))

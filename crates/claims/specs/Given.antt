@@ -1,5 +1,7 @@
 -- What a call gives (demand 2), in the papers' terms, with every byte that it leaves.
 --     RecordOfWord m m′ n w         word to record: the word w, n bytes of record, the memory at entry and at exit
+--     RecordOfText m m′ n ps        text to record: the powers ps of the text, and the same
+--     TextOfRecord s t t′ n         record to text: the record s, n bytes of text, the buffer at entry and at exit
 --     PairOfRecord s p q p′ q′ n    record to tree pair: the record s, N = n, both buffers at entry and at exit
 --     LengthOfRecord s n            record to length: the record s, its length n
 --     WordOfRecord s t t′ o         record to word: the record s, the buffer at entry and at exit, the outcome o
@@ -17,6 +19,8 @@
 --     IsKind t k x                  caret k of t is of kind x                                   lengths, Kinds
 --     weights xs ys                 the sum of the weights of two lists of kinds                lengths, Weights
 --     At xs k x                     entry k of the list xs is x                                 lists, Entries
+--     textOf ps, formPowers f       the text of powers; the powers of a form in its order        tokens, Texts; group, Powers
+--     productLetters ps             the letters that powers are read through                    group, Powers
 --     Spells f w                    w is each x_k^e of f in order, through its letters, with    spelling, Spelling
 --                                   neighbouring inverse letters deleted until none is left
 -- Assumes nothing.
@@ -32,8 +36,10 @@ use Rattle.group.specs.Chains.{Joined}
 use Rattle.group.specs.Maps.{SameMap}
 use Rattle.group.specs.Forms.{bSide, aSide, Form, exponent, letters}
 use Rattle.group.specs.Limits.{limit}
+use Rattle.group.specs.Powers.{SignedPower, productLetters, formPowers}
 use Rattle.refusals.specs.Outcomes.{Outcome, accepted, refused}
 use Rattle.records.specs.Format.{encode, IsRecord}
+use Rattle.tokens.specs.Texts.{textOf}
 use Rattle.trees.specs.Trees.{Tree, carets}
 use Rattle.trees.specs.Pairs.{SmallestPair, Redundant, SendsLeaves}
 use Rattle.trees.specs.Shapes.{shape}
@@ -43,20 +49,35 @@ use Rattle.spelling.specs.Spelling.{Spells}
 use Rattle.words.specs.Recording.{Memory}
 use Rattle.words.specs.Comparing.{Decision, same, different}
 
--- Word to record: the n bytes at the front of the buffer are the record of a reduced form with the word's map, and the
--- tables hold that form's exponents; everything beyond is unchanged.
-pub record RecordOfWord (m m′ : Memory) (n : ℕ) (w : Word) : Type 0 where
+-- The n bytes at the front of the buffer are the record of a reduced form with the word's map, and the first k entries
+-- of the tables are that form's exponents; everything beyond is unchanged.
+pub record RecordWritten (k : ℕ) (m m′ : Memory) (n : ℕ) (w : Word) : Type 0 where
   pub form : Form
   pub bytes : take n (m′ .buffer) ≡ encode form
   pub count : (n ≡ length (encode form)) × (n ≤ length (m′ .buffer))
   pub is-record : IsRecord (take n (m′ .buffer)) form
   pub same-map : SameMap (letters form) w
-  pub b-table : (i : ℕ) → i ≤ length w → getD (m′ .b) i 0 ≡ exponent bSide form i
-  pub a-table : (i : ℕ) → i ≤ length w → getD (m′ .a) i 0 ≡ exponent aSide form i
+  pub b-table : (i : ℕ) → i < k → getD (m′ .b) i 0 ≡ exponent bSide form i
+  pub a-table : (i : ℕ) → i < k → getD (m′ .a) i 0 ≡ exponent aSide form i
   pub beyond :
-      (drop (length w + 1) (m′ .b) ≡ drop (length w + 1) (m .b))
-      × (drop (length w + 1) (m′ .a) ≡ drop (length w + 1) (m .a))
-      × (drop n (m′ .buffer) ≡ drop n (m .buffer))
+      (drop k (m′ .b) ≡ drop k (m .b)) × (drop k (m′ .a) ≡ drop k (m .a)) × (drop n (m′ .buffer) ≡ drop n (m .buffer))
+
+-- Word to record: an entry of each table for each index up to the number of letters.
+abbrev pub RecordOfWord : (m m′ : Memory) (n : ℕ) (w : Word) → Type 0
+RecordOfWord m m′ n w = RecordWritten (length w + 1) m m′ n w
+
+-- Text to record: an entry for each index up to the limit; each power is read through its letters.
+abbrev pub RecordOfText : (m m′ : Memory) (n : ℕ) (ps : List SignedPower) → Type 0
+RecordOfText m m′ n ps = RecordWritten (limit + 1) m m′ n (productLetters ps)
+
+-- Record to text: the text of the powers of the record's form stands at the front of the buffer; everything beyond is
+-- unchanged.
+pub record TextOfRecord (s t t′ : List ℕ) (n : ℕ) : Type 0 where
+  pub form : Form
+  pub is-record : IsRecord s form
+  pub count : n ≡ length (textOf (formPowers form))
+  pub bytes : take n t′ ≡ textOf (formPowers form)
+  pub beyond : drop n t′ ≡ drop n t
 
 -- Record to tree pair: the shapes are those of the smallest pair with the exponents of the record's form, which has no
 -- redundant caret and the form's map; the answer is its N, at most 8,193.

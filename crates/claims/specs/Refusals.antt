@@ -1,9 +1,12 @@
--- The refusals of words and records (01, 'Who caused the refusal'): for each its number, its place and its condition,
--- given where no earlier one of its order holds. For words the order is 1, 2, 6, 7; for records 3, 4, 5, 8, 7.
+-- The refusals of words, records and texts (01, 'Who caused the refusal'; 02, [1]): for each its number, its place and
+-- its condition, given where no earlier one of its order holds. For words the order is 1, 2, 6, 7; for records 3, 4, 5,
+-- 8, 7; for texts 9, 10, 11, 6, 7.
 --     WordRefusal u m number place        of the bytes u as a word, with the memory m lent
 --     RecordRefusal s number place        of the bytes s as a record
 --     PairRefusal s i j number place      of the bytes s as a record, beside buffers of i and j bytes for its shapes
 --     SpellingRefusal s i number place    of the bytes s as a record, beside a buffer of i bytes for its spelling
+--     TextRefusal t m number place        of the bytes t as a text, with the memory m lent
+--     PhraseRefusal s i number place      of the bytes s as a record, beside a buffer of i bytes for its text
 -- Assumes nothing.
 use mathlib.Core.Path.{_≡_}
 use mathlib.Core.List.{List}
@@ -13,7 +16,12 @@ use lib.ListN.{length}
 use Rattle.group.specs.Letters.{Word}
 use Rattle.group.specs.Bytes.{FirstNotLetter}
 use Rattle.group.specs.Limits.{limit}
-use Rattle.group.specs.Forms.{Form}
+use Rattle.group.specs.Maps.{SameMap}
+use Rattle.group.specs.Forms.{Side, Form, exponent, letters}
+use Rattle.group.specs.Reducing.{Reduced}
+use Rattle.group.specs.Powers.{SignedPower, productLetters, exponentSizes, formPowers}
+use Rattle.tokens.specs.Tokens.{AllInRange}
+use Rattle.tokens.specs.Texts.{textOf, FirstMisspelled}
 use Rattle.records.specs.Format.{baseSize, IsRecord}
 use Rattle.records.specs.Faults.{Framed, recordEntries, Sound, FirstFault, formRead, FirstBreak}
 use Rattle.trees.specs.Trees.{Tree, carets}
@@ -97,3 +105,69 @@ pub data SpellingRefusal (s : List ℕ) (i number place : ℕ) : Type 0 where
   unspelled : RecordRefusal s number place → SpellingRefusal s i number place
   longSpelling : number ≡ 8 → place ≡ 0 → LongSpelling s → SpellingRefusal s i number place
   shortWord : number ≡ 7 → place ≡ 0 → ShortWord s i → SpellingRefusal s i number place
+
+-- 9: a piece of the text that is no token of a power in range; the offset is that of the first.
+abbrev pub Misspelled : List ℕ → Type 0
+Misspelled t = (k : ℕ) × FirstMisspelled t k
+
+-- 10: the text is that of powers whose exponents' sizes sum above the limit.
+pub record LargeSum (t : List ℕ) : Type 0 where
+  pub powers : List SignedPower
+  pub in-range : AllInRange powers
+  pub text : t ≡ textOf powers
+  pub large : limit < exponentSizes powers
+
+-- 11: the text is that of powers, and in the reduced form with their letters' map an index above the limit has, on some
+-- side, an exponent above 0.
+pub record HighForm (t : List ℕ) : Type 0 where
+  pub powers : List SignedPower
+  pub in-range : AllInRange powers
+  pub text : t ≡ textOf powers
+  pub form : Form
+  pub reduced : Reduced form
+  pub same-map : SameMap (letters form) (productLetters powers)
+  pub side : Side
+  pub index : ℕ
+  pub high : limit < index
+  pub occurs : 0 < exponent side form index
+
+-- 6 for texts: a table with fewer entries than the limit and one.
+abbrev pub ShortTables : Memory → Type 0
+ShortTables m = (length (m .b) < limit + 1) ⊎ (length (m .a) < limit + 1)
+
+-- 7 for texts: a record buffer with fewer bytes than 6 and four times the sum of the exponents' sizes.
+pub record ShortRecord (t : List ℕ) (m : Memory) : Type 0 where
+  pub powers : List SignedPower
+  pub in-range : AllInRange powers
+  pub text : t ≡ textOf powers
+  pub short : length (m .buffer) < baseSize + 4 * exponentSizes powers
+
+-- What is refused of a text and of what is lent with it.
+pub data TextRefusal (t : List ℕ) (m : Memory) (number place : ℕ) : Type 0 where
+  misspelled : number ≡ 9 → FirstMisspelled t place → TextRefusal t m number place
+  largeSum : number ≡ 10 → place ≡ 0 → (Misspelled t → ⊥) → LargeSum t → TextRefusal t m number place
+  highForm : number ≡ 11 → place ≡ 0 → (Misspelled t → ⊥) → (LargeSum t → ⊥) → HighForm t
+      → TextRefusal t m number place
+  shortTables : number ≡ 6 → place ≡ 0 → (Misspelled t → ⊥) → (LargeSum t → ⊥) → (HighForm t → ⊥) → ShortTables m
+      → TextRefusal t m number place
+  shortRecord : number ≡ 7 → place ≡ 0 → (Misspelled t → ⊥) → (LargeSum t → ⊥) → (HighForm t → ⊥)
+      → (ShortTables m → ⊥) → ShortRecord t m → TextRefusal t m number place
+
+-- None of the five conditions holds.
+pub record NoTextRefusal (t : List ℕ) (m : Memory) : Type 0 where
+  pub spelled : Misspelled t → ⊥
+  pub small-sum : LargeSum t → ⊥
+  pub low-form : HighForm t → ⊥
+  pub full-tables : ShortTables m → ⊥
+  pub long-buffer : ShortRecord t m → ⊥
+
+-- 7 for a text that is written: a buffer with fewer bytes than the text of the record's form.
+pub record ShortText (s : List ℕ) (i : ℕ) : Type 0 where
+  pub form : Form
+  pub is-record : IsRecord s form
+  pub short : i < length (textOf (formPowers form))
+
+-- What is refused of a record and of the buffer lent with it for its text.
+pub data PhraseRefusal (s : List ℕ) (i number place : ℕ) : Type 0 where
+  unphrased : RecordRefusal s number place → PhraseRefusal s i number place
+  shortText : number ≡ 7 → place ≡ 0 → ShortText s i → PhraseRefusal s i number place
