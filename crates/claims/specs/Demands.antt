@@ -121,7 +121,6 @@ pub record Demand2 : Type 0 where
       → recordBy f ≡ s
   pub leaves-both : (u v : List ℕ) (f : TwoWordCall u v)
       → ((r : Reply) × Recorded u (f .lent1) (f .left1) r) × ((r : Reply) × Recorded v (f .lent2) (f .left2) r)
-
   pub is-text : (t : List ℕ) (m m′ : Memory) (r : Reply) (n : ℕ) → TextRecorded t m m′ r → replyOf r ≡ accepted n
       → (ps : List SignedPower) × AllInRange ps × (t ≡ textOf ps)
   pub one-list : (ps qs : List SignedPower) → AllInRange ps → AllInRange qs → textOf ps ≡ textOf qs → ps ≡ qs

@@ -94,3 +94,15 @@ trimmed-levels (level b a f) zero t h =
     absurd (omega (arith, ap levels (trimmed-equal (level b a f) empty t tt (λ s i. h s i (omega arith)))))
 trimmed-levels (level b a f) (suc n) t h =
     omega (arith, trimmed-levels f n (trimmed-above b a f t) (λ s i p. h s (suc i) (omega arith)))
+
+-- The last level of a trimmed form has an exponent above 0.
+pub trimmed-last : (f : Form) (n : ℕ) → Trimmed f → levels f ≡ suc n → (s : Side) × (0 < exponent s f n)
+trimmed-last empty n t e = absurd (omega (arith, e))
+trimmed-last (level b a empty) zero t e = some b a t
+  where
+    some : (c d : ℕ) → 0 < c + d → (s : Side) × (0 < exponent s (level c d empty) 0)
+    some zero d h = (aSide, omega arith)
+    some (suc c) d h = (bSide, omega arith)
+trimmed-last (level b a empty) (suc n) t e = absurd (omega (arith, e))
+trimmed-last (level b a (level c d f)) zero t e = absurd (omega (arith, e))
+trimmed-last (level b a (level c d f)) (suc n) t e = trimmed-last (level c d f) n t (omega (arith, e))
