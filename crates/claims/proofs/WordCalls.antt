@@ -1,32 +1,23 @@
 -- An accepted call of word to record: its word, its record, and what it leaves. Assumes nothing.
-use mathlib.Core.Path.{_≡_, sym, ap, ap₂, _∙_}
+use mathlib.Core.Path.{_≡_, refl, sym, ap, ap₂, _∙_}
 use mathlib.Core.List.{List}
 use mathlib.Core.Logic.{_↔_}
 use Prim.Native.Nat.{ℕ, _+_, _≤_}
 use native.Mathlib.Omega.{arith}
-use lib.ListN.{length, take, drop, getD, length-take}
-use lib.Seq.{drop-at}
-use Rattle.lists.proofs.Writes.{sets-beyond}
-use Rattle.lists.specs.Tables.{values, filled}
-use Rattle.lists.proofs.Tables.{values-length, filled-at}
+use lib.ListN.{length, take}
 use Rattle.group.specs.Letters.{Word}
 use Rattle.group.specs.Bytes.{bytesOf}
 use Rattle.group.specs.Chains.{Joined}
-use Rattle.group.specs.Forms.{Side, bSide, aSide, exponent}
+use Rattle.group.specs.Forms.{bSide, aSide}
 use Rattle.group.specs.Products.{formOf}
 use Rattle.group.specs.Limits.{limit}
 use Rattle.group.proofs.Bytes.{read-length}
-use Rattle.group.proofs.Reduced.{form-canonical, form-reduced, form-trimmed}
 use Rattle.group.proofs.Sizes.{form-sum}
-use Rattle.group.proofs.Theorems.{form-map, forms↔joined}
 use Rattle.refusals.specs.Outcomes.{Outcome, accepted, refused, replyOf}
 use Rattle.refusals.specs.declared.Reply.{Reply}
 use Rattle.refusals.proofs.Outcomes.{accepted-refused}
-use Rattle.records.specs.Format.{encode}
 use Rattle.records.specs.Reading.{decode}
 use Rattle.records.proofs.WordForms.{form-within}
-use Rattle.records.proofs.ReadBack.{encode-injective}
-use Rattle.records.proofs.Accepted.{decode-encode}
 use Rattle.records.proofs.Lengths.{encode-size}
 use Rattle.forest.specs.Filling.{tableAfter}
 use Rattle.words.specs.Recording.{Memory, memory, judgedWith, encodeWord, countRecord, bufferAfter, Left, Recorded}
@@ -34,6 +25,7 @@ use Rattle.words.specs.inside.Writing.{WordWritten}
 use Rattle.words.proofs.Judged.{accepted-record}
 use Rattle.words.proofs.Compared.{front-record}
 use Rattle.claims.specs.Given.{RecordOfWord}
+use Rattle.claims.proofs.Written.{record-written, Listed, listed↔joined, listed-form}
 use Rattle.claims.proofs.Refusals.{Judged, refuses, accepts, judge-word, judged-accepted}
 
 -- Nothing is altered where the outcome is a refusal.
@@ -54,13 +46,9 @@ judged-within u m w e =
 -- Two words within the limit have one record just when a chain joins them.
 pub records↔joined : (w x : Word) → length w ≤ limit → length x ≤ limit
     → (encodeWord w ≡ encodeWord x) ↔ Joined w x
-records↔joined w x few few′ = (
-  (λ same.
-      forms↔joined w x .0
-      (encode-injective (formOf w) (formOf x) (form-trimmed w) (form-within w few)
-      (form-trimmed x) (form-within x few′) same)),
-  (λ j. ap encode (forms↔joined w x .1 j)),
-)
+records↔joined w x few few′ =
+    listed↔joined w x (record { is = refl; within = form-within w few })
+    (record { is = refl; within = form-within x few′ })
 
 -- An accepted call, its word and its record.
 pub record CallOf (u : List ℕ) (m m′ : Memory) (n : ℕ) : Type 0 where
@@ -98,66 +86,30 @@ call-front {u} {m} {m′} {r} {n} {w} h e b = go (judge-word u m)
 
 -- The record of a word within the limit is read as the form of the word.
 pub read-record : (w : Word) → length w ≤ limit → decode (encodeWord w) ≡ accepted (formOf w)
-read-record w short = decode-encode (formOf w) (form-canonical w) (form-within w short)
+read-record w short = listed-form w (record { is = refl; within = form-within w short })
 
--- So is the record that an accepted call writes.
-pub recorded-form : {u : List ℕ} {m m′ : Memory} {r : Reply} {n : ℕ} (w : Word) → Recorded u m m′ r
-    → replyOf r ≡ accepted n → u ≡ bytesOf w → decode (take n (m′ .buffer)) ≡ accepted (formOf w)
-recorded-form {u} {m} {m′} {r} {n} w h e b =
+-- The record that an accepted call writes.
+pub word-listed : {u : List ℕ} {m m′ : Memory} {r : Reply} {n : ℕ} (w : Word) → Recorded u m m′ r
+    → replyOf r ≡ accepted n → u ≡ bytesOf w → Listed w (take n (m′ .buffer))
+word-listed {u} {m} {m′} {r} {n} w h e b =
     let call = call-front {w = w} h e b in
-    ap decode (call .front) ∙ read-record w (judged-within u m w (call .judged-so))
+    record { is = call .front; within = form-within w (judged-within u m w (call .judged-so)) }
 
 -- Its record lies inside the buffer.
 record-fits : (u : List ℕ) (m : Memory) (w : Word) → judgedWith u m ≡ accepted w
-    → 0 + length (encodeWord w) ≤ length (m .buffer)
+    → length (encodeWord w) ≤ length (m .buffer)
 record-fits u m w so =
     let fit = accepted-record u (length (m .b)) (length (m .a)) (length (m .buffer)) w so in
     omega (arith, encode-size (formOf w), form-sum w, fit .roomy, read-length u w (fit .fit .reads))
-
--- The table of an accepted word.
-table-at : (w : Word) (s : Side) (t t′ : List ℕ) → t′ ≡ filled (length w + 1) (exponent s (formOf w)) t → (i : ℕ)
-    → i ≤ length w → getD t′ i 0 ≡ exponent s (formOf w) i
-table-at w s t t′ e i le =
-    ap (λ (l : List ℕ). getD l i 0) e
-    ∙ filled-at (length w + 1) (exponent s (formOf w)) t i (omega (arith, le))
-
-table-beyond : (w : Word) (s : Side) (t t′ : List ℕ) → t′ ≡ filled (length w + 1) (exponent s (formOf w)) t
-    → drop (length w + 1) t′ ≡ drop (length w + 1) t
-table-beyond w s t t′ e =
-    ap (drop (length w + 1)) e
-    ∙ drop-at (values (length w + 1) (exponent s (formOf w))) (drop (length w + 1) t) (length w + 1)
-    (values-length (length w + 1) (exponent s (formOf w)))
 
 pub call-keeps-map : {u : List ℕ} {m m′ : Memory} {r : Reply} {n : ℕ} {w : Word} → Recorded u m m′ r
     → replyOf r ≡ accepted n → u ≡ bytesOf w → RecordOfWord m m′ n w
 call-keeps-map {u} {m} {m′} {r} {n} {w} h e b =
     let call = call-front h e b in
     let so = call .judged-so in
-    let tb : m′ .b ≡ filled (length w + 1) (exponent bSide (formOf w)) (m .b) =
-    h .leaves .b-table ∙ ap (λ (o : Outcome Word). tableAfter bSide o (m .b)) so in
-    let ta : m′ .a ≡ filled (length w + 1) (exponent aSide (formOf w)) (m .a) =
-    h .leaves .a-table ∙ ap (λ (o : Outcome Word). tableAfter aSide o (m .a)) so in
-    let fits : 0 + length (encodeWord w) ≤ length (m .buffer) = record-fits u m w so in
-    record {
-      form = formOf w;
-      bytes = call .front;
-      count = (
-        call .count,
-        omega (arith, sym (length-take n (m′ .buffer)) ∙ ap length (call .front) ∙ sym (call .count)),
-      );
-      is-record = record {
-        bytes = call .front;
-        within = form-within w (judged-within u m w so);
-        reduced = form-reduced w;
-        trimmed = form-trimmed w;
-      };
-      same-map = form-map w;
-      b-table = table-at w bSide (m .b) (m′ .b) tb;
-      a-table = table-at w aSide (m .a) (m′ .a) ta;
-      beyond = (
-        table-beyond w bSide (m .b) (m′ .b) tb,
-        table-beyond w aSide (m .a) (m′ .a) ta,
-        ap (drop n) (h .leaves .bytes ∙ ap (λ (o : Outcome Word). bufferAfter o (m .buffer)) so)
-            ∙ sets-beyond (encodeWord w) (m .buffer) n (sym (call .count)) (omega (arith, fits, call .count)),
-      );
-    }
+    record-written (length w + 1) n w m m′ (form-within w (judged-within u m w so))
+    (h .leaves .b-table ∙ ap (λ (o : Outcome Word). tableAfter bSide o (m .b)) so)
+    (h .leaves .a-table ∙ ap (λ (o : Outcome Word). tableAfter aSide o (m .a)) so)
+    (h .leaves .bytes ∙ ap (λ (o : Outcome Word). bufferAfter o (m .buffer)) so)
+    (call .count)
+    (omega (arith, record-fits u m w so, call .count))

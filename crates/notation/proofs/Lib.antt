@@ -1,1 +1,2 @@
 -- Laws of the two calls on subscript notation.
+pub mod FormRanges
