@@ -16,7 +16,7 @@ pow-pos : (k : ℕ) → 1 ≤ 10 ^ k
 pow-pos k = one-le-pow k 10 (omega arith)
 
 -- One digit.
-within-one : (most n : ℕ) → n < 10 → decimalWithin most n ≡ glyph (n % 10) ∷ []
+pub within-one : (most n : ℕ) → n < 10 → decimalWithin most n ≡ glyph (n % 10) ∷ []
 unfolding decimalWithin
 within-one zero n h = refl
 within-one (suc most) n h =
@@ -27,7 +27,8 @@ within-one (suc most) n h =
     first e = ap (λ (t : Bool). cond t (glyph n ∷ []) (decimalWithin most (n / 10) ++ (glyph (n % 10) ∷ []))) e
 
 -- More than one digit.
-within-more : (most n : ℕ) → 10 ≤ n → decimalWithin (suc most) n ≡ decimalWithin most (n / 10) ++ (glyph (n % 10) ∷ [])
+pub within-more : (most n : ℕ) → 10 ≤ n
+    → decimalWithin (suc most) n ≡ decimalWithin most (n / 10) ++ (glyph (n % 10) ∷ [])
 unfolding decimalWithin
 within-more most n h = simp (le-ltb n 10 h)
 
@@ -79,6 +80,9 @@ within-length (suc most) n k h = go (λ j l. within-length most (n / 10) j l) (l
     go few true e = omega arith
     go few false e = length-more n k (decimalWithin most (n / 10)) (ltb-false n 10 e) h few
 
+pub decimal-short : (n k : ℕ) → n < 10 ^ suc k → length (decimal n) ≤ suc k
+decimal-short n k h = within-length n n k h
+
 -- A number of 64 bits has at most 20 digits.
 pub decimal-length : (n : ℕ) → n < 2 ^ 64 → length (decimal n) ≤ 20
-decimal-length n h = within-length n n 19 (omega arith)
+decimal-length n h = decimal-short n 19 (omega arith)
