@@ -24,7 +24,6 @@ use Rattle.words.specs.Comparing.{Compared, decisionOf}
 use Rattle.words.specs.declared.Comparison.{Comparison}
 use Rattle.pairs.specs.Contracts.{Paired, Measured}
 use Rattle.spelling.specs.Contracts.{Spelled}
-use Rattle.tokens.specs.Tokens.{AllInRange}
 use Rattle.tokens.specs.Texts.{textOf}
 use Rattle.notation.specs.Contracts.{TextRecorded, TextWritten}
 use Rattle.thompson.specs.Codes.{codeOf, Passed}
@@ -48,10 +47,10 @@ WordCall w = MemoryCall (Recorded (bytesOf w))
 abbrev pub TextCall : List SignedPower → Type 0
 TextCall ps = MemoryCall (TextRecorded (textOf ps))
 
--- An accepted call on a word: by its bytes, or by the text of powers in range through whose letters it is read.
+-- An accepted call on a word: by its bytes, or by the text of powers through whose letters it is read.
 pub data CallOn (w : Word) : Type 0 where
   byWord : WordCall w → CallOn w
-  byText : (ps : List SignedPower) → AllInRange ps → w ≡ productLetters ps → TextCall ps → CallOn w
+  byText : (ps : List SignedPower) → w ≡ productLetters ps → TextCall ps → CallOn w
 
 -- The bytes that a call wrote.
 abbrev pub writtenBy : {R : Memory → Memory → Reply → Type 0} → MemoryCall R → List ℕ
@@ -60,7 +59,7 @@ writtenBy c = take (c .count) (c .left .buffer)
 -- The record that it wrote.
 abbrev pub recordBy : {w : Word} → CallOn w → List ℕ
 recordBy (byWord c) = writtenBy c
-recordBy (byText ps h e c) = writtenBy c
+recordBy (byText ps e c) = writtenBy c
 
 -- An accepted call of record_to_word.
 pub record SpellingCall (s : List ℕ) : Type 0 where
@@ -127,10 +126,10 @@ pub record ExportedMemoryCall (R : Memory → Memory → Reply → Type 0) : Typ
 -- An accepted call of thompson_word_to_record or of thompson_text_to_record on a word.
 pub data ExportedCall (w : Word) : Type 0 where
   exportedWord : ExportedMemoryCall (Recorded (bytesOf w)) → ExportedCall w
-  exportedText : (ps : List SignedPower) → AllInRange ps → w ≡ productLetters ps
-      → ExportedMemoryCall (TextRecorded (textOf ps)) → ExportedCall w
+  exportedText : (ps : List SignedPower) → w ≡ productLetters ps → ExportedMemoryCall (TextRecorded (textOf ps))
+      → ExportedCall w
 
 -- The record that it wrote.
 abbrev pub exportedRecord : {w : Word} → ExportedCall w → List ℕ
 exportedRecord (exportedWord c) = take (c .answer .value) (c .left .buffer)
-exportedRecord (exportedText ps h e c) = take (c .answer .value) (c .left .buffer)
+exportedRecord (exportedText ps e c) = take (c .answer .value) (c .left .buffer)

@@ -123,9 +123,8 @@ pub record Demand2 : Type 0 where
       → ((r : Reply) × Recorded u (f .lent1) (f .left1) r) × ((r : Reply) × Recorded v (f .lent2) (f .left2) r)
   pub is-text : (t : List ℕ) (m m′ : Memory) (r : Reply) (n : ℕ) → TextRecorded t m m′ r → replyOf r ≡ accepted n
       → (ps : List SignedPower) × AllInRange ps × (t ≡ textOf ps)
-  pub one-list : (ps qs : List SignedPower) → AllInRange ps → AllInRange qs → textOf ps ≡ textOf qs → ps ≡ qs
-  pub text-keeps-map : (ps : List SignedPower) → AllInRange ps → (f : TextCall ps)
-      → RecordOfText (f .lent) (f .left) (f .count) ps
+  pub one-list : (ps qs : List SignedPower) → textOf ps ≡ textOf qs → ps ≡ qs
+  pub text-keeps-map : (ps : List SignedPower) (f : TextCall ps) → RecordOfText (f .lent) (f .left) (f .count) ps
   pub gives-text : (s : List ℕ) (g : PhraseCall s) → TextOfRecord s (g .lent) (g .left) (g .count)
   pub text-accepted-again : (s : List ℕ) (g : PhraseCall s) (m : Memory) → (ShortTables m → ⊥)
       → (ShortRecord (phrasedBy g) m → ⊥) → NoTextRefusal (phrasedBy g) m

@@ -1,5 +1,5 @@
--- What a text is read as (02, [1]): the powers of its tokens, or refusal 9 at the first misspelled token, or, where none
--- is misspelled, refusal 10. Assumes nothing.
+-- What a text is read as (02, [1]): the powers of its tokens, or refusal 9 at the first misspelled token, or, where
+-- none is misspelled, refusal 10. Assumes nothing.
 use mathlib.Core.Path.{_≡_}
 use mathlib.Core.List.{List}
 use Prim.Native.Nat.{ℕ, _≤_, _<_}

@@ -1,4 +1,5 @@
--- Texts of powers, and the pieces of any text (02, [1]): "tokens stand one space apart. … Empty text is the empty word."
+-- Texts of powers, and the pieces of any text (02, [1]): "tokens stand one space apart", "Empty text is the empty
+-- word".
 --     textOf ps             the tokens of the powers, one space apart
 --     piecesOf t            what the spaces of a text part, each piece with its offset: k spaces part k + 1 pieces
 --     FirstMisspelled t k   the first piece that is no token of a power in range stands at the offset k
