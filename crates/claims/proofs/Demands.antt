@@ -17,21 +17,26 @@ use Rattle.records.specs.Checking.{Checked}
 use Rattle.lengths.specs.Weights.{formLength}
 use Rattle.words.specs.Recording.{Memory, encodeWord, judgedWith, Recorded}
 use Rattle.words.specs.Comparing.{decisionOf, same, different}
+use Rattle.tokens.proofs.Texts.{text-injective}
 use Rattle.thompson.specs.Codes.{readOutcome, outcomeOf}
 use Rattle.thompson.proofs.Codes.{reply-read}
 use Rattle.claims.specs.Refusals.{WordRefusal, RecordRefusal}
 use Rattle.claims.specs.Answers.{IsRefused, IsAccepted, Refuses}
-use Rattle.claims.specs.Calls.{WordCall, recordBy, SpellingCall, spelledBy, TwoWordCall, ExportedCall}
+use Rattle.claims.specs.Calls.{CallOn, byWord, byText, recordBy, MemoryCall, SpellingCall, spelledBy, TwoWordCall}
+use Rattle.claims.specs.Calls.{ExportedMemoryCall, ExportedCall, exportedWord, exportedText, exportedRecord}
 use Rattle.claims.specs.Demands.{Demand1, Demand2, Demand3}
 use Rattle.claims.proofs.Answers.{is-refused, refuses-when}
 use Rattle.claims.proofs.Records.{records-are-accepted}
 use Rattle.claims.proofs.Refusals.{judged↔refusal, no-refusal↔none, judged-accepted, decoded↔refusal}
-use Rattle.claims.proofs.WordCalls.{left-refused, judged-within, records↔joined, call-of}
-use Rattle.claims.proofs.WordCalls.{call-keeps-map, call-front, recorded-form}
+use Rattle.claims.proofs.Written.{Listed, listed↔joined, listed-form}
+use Rattle.claims.proofs.WordCalls.{left-refused, call-of, call-keeps-map}
 use Rattle.claims.proofs.TwoWordCalls.{two-refused, own-calls, two-decided}
 use Rattle.claims.proofs.PairCalls.{pair-refused, pair-gives, length-gives}
 use Rattle.claims.proofs.SpellingCalls.{spelling-refused, spelled-as, word-of-record}
 use Rattle.claims.proofs.SpellingCalls.{joined-spelling, spelling-sent, spelling-again}
+use Rattle.claims.proofs.TextRefusals.{no-text-refusal↔none}
+use Rattle.claims.proofs.TextCalls.{text-refused, text-call, text-keeps-map, call-listed}
+use Rattle.claims.proofs.PhraseCalls.{phrase-refused, phrased-as, phrase-gives, phrase-sent, phrase-again}
 
 -- Word to record refuses as the word is judged, and then leaves everything.
 word-refused : {u : List ℕ} {m m′ : Memory} {r : Reply} → Recorded u m m′ r
@@ -56,19 +61,11 @@ check-accepts {s} h =
     ((λ a. records .0 (accepts .0 a)), λ f. accepts .1 (records .1 f))
 
 -- Two accepted words have equal records just when a chain joins them.
-equal↔joined : (w x : Word) (f : WordCall w) (g : WordCall x) → (recordBy f ≡ recordBy g) ↔ Joined w x
-equal↔joined w x f g =
-    let one = call-front {w = w} (f .contract) (f .taken) refl in
-    let two = call-front {w = x} (g .contract) (g .taken) refl in
-    let few = judged-within (bytesOf w) (f .lent) w (one .judged-so) in
-    let few′ = judged-within (bytesOf x) (g .lent) x (two .judged-so) in
-    let joins = records↔joined w x few few′ in (
-      (λ e. joins .0 (sym (one .front) ∙ e ∙ two .front)),
-      (λ j. one .front ∙ joins .1 j ∙ sym (two .front)),
-    )
+equal↔joined : (w x : Word) (f : CallOn w) (g : CallOn x) → (recordBy f ≡ recordBy g) ↔ Joined w x
+equal↔joined w x f g = listed↔joined w x (call-listed w f) (call-listed x g)
 
--- An accepted exported call is an accepted call.
-abbrev passed-on : {w : Word} → ExportedCall w → WordCall w
+-- An accepted call of an export is an accepted call of what it passes on to.
+abbrev passed-on : {R : Memory → Memory → Reply → Type 0} → ExportedMemoryCall R → MemoryCall R
 passed-on f = record {
   lent = f .lent;
   left = f .left;
@@ -80,6 +77,10 @@ passed-on f = record {
       ∙ sym (ap outcomeOf (f .contract .numbers))
       ∙ ap (λ (n : ℕ). readOutcome n (f .answer .value)) (f .taken);
 }
+
+exported-listed : (w : Word) (f : ExportedCall w) → Listed w (exportedRecord f)
+exported-listed w (exportedWord f) = call-listed w (byWord (passed-on f))
+exported-listed w (exportedText ps e f) = call-listed w (byText ps e (passed-on f))
 
 -- A two-word call that answers has judged both words good.
 decides↔joined : (w x : Word) (f : TwoWordCall (bytesOf w) (bytesOf x))
@@ -94,16 +95,15 @@ decides↔joined w x f =
     (judged-accepted (bytesOf x) k x (no-refusal↔none (bytesOf x) k .1 (none .1)) refl)
 
 -- The spelling of a word's record is joined to the word.
-spelling-joins : (w x : Word) (f : WordCall w) (g : SpellingCall (recordBy f)) → spelledBy g ≡ bytesOf x → Joined x w
+spelling-joins : (w x : Word) (f : CallOn w) (g : SpellingCall (recordBy f)) → spelledBy g ≡ bytesOf x → Joined x w
 spelling-joins w x f g =
-    joined-spelling (spelled-as (g .contract) (g .taken) .1) (recorded-form w (f .contract) (f .taken) refl)
+    joined-spelling (spelled-as (g .contract) (g .taken) .1) (listed-form w (call-listed w f))
 
 -- The record of the spelling is the record.
-spelling-recorded : (s : List ℕ) (g : SpellingCall s) (x : Word) (f : WordCall x) → spelledBy g ≡ bytesOf x
+spelling-recorded : (s : List ℕ) (g : SpellingCall s) (x : Word) (f : CallOn x) → spelledBy g ≡ bytesOf x
     → recordBy f ≡ s
 spelling-recorded s g x f e =
-    call-front {w = x} (f .contract) (f .taken) refl .front
-    ∙ spelling-again x (g .contract .are-bytes) (spelled-as (g .contract) (g .taken) .1) e
+    call-listed x f .is ∙ spelling-again x (g .contract .are-bytes) (spelled-as (g .contract) (g .taken) .1) e
 
 pub demand1 : Demand1
 demand1 = record {
@@ -116,6 +116,9 @@ demand1 = record {
   same-element = two-refused;
   accepted-word = no-refusal↔none;
   accepted-record = λ s r. check-accepts;
+  text-to-record = λ t m m′ r. text-refused;
+  record-to-text = λ s t t′ r. phrase-refused;
+  accepted-text = no-text-refusal↔none;
 }
 
 pub demand2 : Demand2
@@ -130,11 +133,18 @@ demand2 = record {
   record-again = spelling-recorded;
   leaves-both = λ u v f.
       own-calls u v (f .lent1) (f .left1) (f .lent2) (f .left2) (f .answer) (f .contract) (f .taken);
+  is-text = λ t m m′ r n h e. let call = text-call h e in (call .0, call .1 .in-range, call .1 .text);
+  one-list = text-injective;
+  text-keeps-map = λ ps f. text-keeps-map ps (f .contract) (f .taken) refl;
+  gives-text = λ s g. phrase-gives (g .contract) (g .taken);
+  text-accepted-again = λ s g m. phrase-sent m (phrased-as (g .contract) (g .taken) .1);
+  text-record-again = λ s g f.
+      phrase-again (g .contract .are-bytes) (phrased-as (g .contract) (g .taken) .1) (f .contract) (f .taken);
 }
 
 pub demand3 : Demand3
 demand3 = record {
   equal-just-when-joined = equal↔joined;
-  exported-just-when-joined = λ w x f g. equal↔joined w x (passed-on f) (passed-on g);
+  exported-just-when-joined = λ w x f g. listed↔joined w x (exported-listed w f) (exported-listed x g);
   same-just-when-joined = decides↔joined;
 }

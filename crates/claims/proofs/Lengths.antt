@@ -9,6 +9,7 @@ use Rattle.group.specs.Chains.{Joined}
 use Rattle.group.specs.Forms.{Form, letters}
 use Rattle.group.specs.Products.{formOf}
 use Rattle.group.proofs.Congruence.{joined-sym}
+use Rattle.group.proofs.Products.{form-joined}
 use Rattle.group.proofs.Theorems.{the-form-joined, forms↔joined, joined↔maps}
 use Rattle.refusals.proofs.Outcomes.{accepted-same, valued-accepted}
 use Rattle.records.specs.Format.{IsRecord}
@@ -19,10 +20,11 @@ use Rattle.geodesics.proofs.LabelSums.{form-labels}
 use Rattle.geodesics.proofs.CaretBound.{form-carets}
 use Rattle.geodesics.proofs.WordLengths.{behind-by-one, behind-lowers, zero-length}
 use Rattle.geodesics.proofs.ShortestWords.{shortest-word, shortest-least}
-use Rattle.claims.specs.Calls.{LengthCall}
+use Rattle.claims.specs.Calls.{LengthCall, recordBy}
 use Rattle.claims.specs.Lengths.{LengthIsLeast, LetterChangesByOne, SomeLetterLowers, ZeroIsIdentity}
 use Rattle.claims.specs.Lengths.{LengthIsReached, NoShorterWord, FewCarets, LabelsGiveLength}
-use Rattle.claims.proofs.WordCalls.{call-keeps-map}
+use Rattle.claims.proofs.Written.{listed-record}
+use Rattle.claims.proofs.TextCalls.{call-listed}
 
 pub letter-changes-by-one : LetterChangesByOne
 letter-changes-by-one = behind-by-one
@@ -66,7 +68,5 @@ length-is-least = record {
   least = least;
   least-of-map = λ s c f h w m. least s c f h w (joined↔maps w (letters f) .1 m);
   of-word = λ w g c.
-      let kept = call-keeps-map {w = w} (g .contract) (g .taken) refl in
-      least _ c (kept .form) (kept .is-record) w
-      (joined-sym (joined↔maps (letters (kept .form)) w .1 (kept .same-map)));
+      least (recordBy g) c (formOf w) (listed-record w (call-listed w g)) w (joined-sym (form-joined w));
 }

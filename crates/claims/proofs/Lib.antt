@@ -2,10 +2,14 @@
 pub mod Answers
 pub mod Refusals
 pub mod Records
+pub mod Written
 pub mod WordCalls
 pub mod TwoWordCalls
 pub mod PairCalls
 pub mod SpellingCalls
+pub mod TextRefusals
+pub mod TextCalls
+pub mod PhraseCalls
 pub mod Demands
 pub mod Exports
 pub mod Forms

@@ -20,12 +20,35 @@ use Rattle.group.specs.Products.{formOf}
 use Rattle.group.proofs.Reduced.{form-canonical, form-reduced, form-trimmed}
 use Rattle.group.proofs.Theorems.{form-map, forms↔joined}
 use Rattle.refusals.specs.Outcomes.{accepted}
-use Rattle.records.specs.Format.{encode, Within}
+use Rattle.records.specs.Format.{encode, Within, IsRecord}
 use Rattle.records.specs.Reading.{decode}
 use Rattle.records.proofs.ReadBack.{encode-injective}
 use Rattle.records.proofs.Accepted.{decode-encode}
 use Rattle.words.specs.Recording.{Memory, encodeWord}
 use Rattle.claims.specs.Given.{RecordWritten}
+
+-- The bytes are the record of a word, and its form is within the limits.
+pub record Listed (w : Word) (s : List ℕ) : Type 0 where
+  pub is : s ≡ encodeWord w
+  pub within : Within (formOf w)
+
+-- Two such records are equal just when a chain joins the words.
+pub listed↔joined : (w x : Word) {s t : List ℕ} → Listed w s → Listed x t → (s ≡ t) ↔ Joined w x
+listed↔joined w x h k = (
+  (λ e.
+      forms↔joined w x .0
+      (encode-injective (formOf w) (formOf x) (form-trimmed w) (h .within) (form-trimmed x) (k .within)
+      (sym (h .is) ∙ e ∙ k .is))),
+  (λ j. h .is ∙ ap encode (forms↔joined w x .1 j) ∙ sym (k .is)),
+)
+
+-- Such a record is read as the form of the word.
+pub listed-form : (w : Word) {s : List ℕ} → Listed w s → decode s ≡ accepted (formOf w)
+listed-form w h = ap decode (h .is) ∙ decode-encode (formOf w) (form-canonical w) (h .within)
+
+-- It is the record of that form.
+pub listed-record : (w : Word) {s : List ℕ} → Listed w s → IsRecord s (formOf w)
+listed-record w h = record { bytes = h .is; within = h .within; reduced = form-reduced w; trimmed = form-trimmed w }
 
 -- The entries of a table that was filled, and those beyond.
 module _ (k : ℕ) (f : ℕ → ℕ) (t t′ : List ℕ) (e : t′ ≡ filled k f t) where
@@ -48,12 +71,7 @@ module _ (k n : ℕ) (w : Word) (m m′ : Memory) (within : Within (formOf w))
     form = formOf w;
     bytes = front;
     count = (count, omega (arith, fits, ap length bytes, length-sets (m .buffer) 0 (encodeWord w)));
-    is-record = record {
-      bytes = front;
-      within = within;
-      reduced = form-reduced w;
-      trimmed = form-trimmed w;
-    };
+    is-record = listed-record w (record { is = front; within = within });
     same-map = form-map w;
     b-table = table-at k (exponent bSide (formOf w)) (m .b) (m′ .b) b-table;
     a-table = table-at k (exponent aSide (formOf w)) (m .a) (m′ .a) a-table;
@@ -63,22 +81,3 @@ module _ (k n : ℕ) (w : Word) (m m′ : Memory) (within : Within (formOf w))
       ap (drop n) bytes ∙ sets-beyond (encodeWord w) (m .buffer) n (sym count) fits,
     );
   }
-
--- The bytes are the record of a word, and its form is within the limits.
-pub record Listed (w : Word) (s : List ℕ) : Type 0 where
-  pub is : s ≡ encodeWord w
-  pub within : Within (formOf w)
-
--- Two such records are equal just when a chain joins the words.
-pub listed↔joined : (w x : Word) {s t : List ℕ} → Listed w s → Listed x t → (s ≡ t) ↔ Joined w x
-listed↔joined w x h k = (
-  (λ e.
-      forms↔joined w x .0
-      (encode-injective (formOf w) (formOf x) (form-trimmed w) (h .within) (form-trimmed x) (k .within)
-      (sym (h .is) ∙ e ∙ k .is))),
-  (λ j. h .is ∙ ap encode (forms↔joined w x .1 j) ∙ sym (k .is)),
-)
-
--- Such a record is read as the form of the word.
-pub listed-form : (w : Word) {s : List ℕ} → Listed w s → decode s ≡ accepted (formOf w)
-listed-form w h = ap decode (h .is) ∙ decode-encode (formOf w) (form-canonical w) (h .within)

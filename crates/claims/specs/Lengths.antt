@@ -25,7 +25,7 @@ use Rattle.records.specs.Format.{IsRecord}
 use Rattle.trees.specs.Pairs.{caretsOf, minusTree, plusTree}
 use Rattle.lengths.specs.Weights.{formLength}
 use Rattle.geodesics.specs.Labels.{labelLength}
-use Rattle.claims.specs.Calls.{WordCall, recordBy, LengthCall}
+use Rattle.claims.specs.Calls.{CallOn, recordBy, LengthCall}
 
 -- The call's answer is the least number of letters: some word of the record's element has so many, none has fewer, also
 -- among the words of the same map, of any length; so no word is shorter than the length of its own record.
@@ -36,7 +36,7 @@ pub record LengthIsLeast : Type 0 where
       → (w : Word) → Joined w (letters f) → c .count ≤ length w
   pub least-of-map : (s : List ℕ) (c : LengthCall s) (f : Form) → IsRecord s f
       → (w : Word) → SameMap w (letters f) → c .count ≤ length w
-  pub of-word : (w : Word) (f : WordCall w) (c : LengthCall (recordBy f)) → c .count ≤ length w
+  pub of-word : (w : Word) (f : CallOn w) (c : LengthCall (recordBy f)) → c .count ≤ length w
 
 -- Lemma 3.1, property 3: a letter put behind a word changes the length of its element by exactly one.
 abbrev pub LetterChangesByOne : Type 0
