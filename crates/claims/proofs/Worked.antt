@@ -1,7 +1,7 @@
 -- The rows of specs/Worked.antt, by computation; a record of a word is read as the word's form. That the unreduced form
 -- has the map of b is one free reduction of its letters. Assumes nothing.
 use mathlib.Core.Path.{_≡_, refl, sym, ap, _∙_, subst}
-use mathlib.Core.List.{[], _∷_, _++_}
+use mathlib.Core.List.{List, [], _∷_, _++_}
 use Prim.Native.Nat.{ℕ, zero, suc, _<_, _≤_}
 use native.Mathlib.Omega.{arith}
 use lib.ListN.{length}
@@ -13,13 +13,18 @@ use Rattle.group.specs.Forms.{Side, bSide, aSide, Form, exponent, letters}
 use Rattle.group.specs.Limits.{limit}
 use Rattle.group.specs.Reducing.{Applies}
 use Rattle.group.specs.Products.{formOf}
+use Rattle.group.specs.Powers.{formPowers}
 use Rattle.group.proofs.Congruence.{≈→joined}
 use Rattle.group.proofs.Inverses.{eight-pairs}
 use Rattle.group.proofs.FreeReduction.{word, free}
-use Rattle.group.proofs.Reduced.{form-reduced}
+use Rattle.group.proofs.Reduced.{form-canonical, form-reduced}
+use Rattle.group.proofs.Powers.{powers-again}
 use Rattle.group.proofs.Theorems.{joined-map}
 use Rattle.group.proofs.NoStep.{reduced-no-step}
 use Rattle.refusals.specs.Outcomes.{Outcome, accepted, refused, valued, then}
+use Rattle.refusals.specs.Placing.{fitting}
+use Rattle.refusals.proofs.Placing.{fit-long}
+use Rattle.records.specs.Format.{encode}
 use Rattle.records.specs.Reading.{reducedForm, decode}
 use Rattle.clause.specs.Clause.{findBreak}
 use Rattle.records.specs.Faults.{formRead}
@@ -29,10 +34,12 @@ use Rattle.lengths.specs.Weights.{formLength}
 use Rattle.spelling.specs.Spelling.{spelling}
 use Rattle.spelling.specs.Contracts.{wordIn}
 use Rattle.words.specs.Recording.{encodeWord}
+use Rattle.tokens.specs.Texts.{textOf}
+use Rattle.notation.specs.Contracts.{formText}
 use Rattle.numerals.specs.Decimals.{ascii, decimalWithin}
 use Rattle.rows.specs.Receipts.{outputOf}
 use Rattle.claims.specs.Worked.{unreduced, unreducedRecord, deadEnd, deadEndRecord, Measures, IsSpelled}
-use Rattle.claims.specs.Worked.{Worked, WorkedForms}
+use Rattle.claims.specs.Worked.{IsPhrased, Worked, WorkedForms}
 use Rattle.claims.proofs.WordCalls.{read-record}
 
 -- The clause is broken at index 0.
@@ -92,6 +99,25 @@ spelled-dead-end = record {
   spelled = ap (λ (o : Outcome Form). then o (λ f. wordIn 13 (spelling f))) read-dead-end;
 }
 
+-- The text of its powers.
+abbrev dead-end-text : List ℕ
+dead-end-text = ascii "x0^2 x1 x6 x3^-1 x0^-2"
+
+text-dead-end : dead-end-text ≡ textOf (formPowers deadEnd)
+unfolding decimalWithin
+text-dead-end = refl
+
+phrased-dead-end : IsPhrased deadEndRecord "x0^2 x1 x6 x3^-1 x0^-2"
+phrased-dead-end = record {
+  powers = formPowers deadEnd;
+  text = text-dead-end;
+  recorded = ap encode (powers-again deadEnd (form-canonical (word "aabAAAAAbaaaB")));
+  phrased =
+      ap (λ (o : Outcome Form). then o (λ f. fitting (length (formText f)) (formText f) dead-end-text)) read-dead-end
+      ∙ fit-long (length (formText deadEnd)) (formText deadEnd) dead-end-text (omega (arith, ap length text-dead-end))
+      ∙ ap accepted (sym text-dead-end);
+}
+
 -- The receipts of the three lines.
 printed : outputOf (ascii "abA\naA\naxb\n") ≡ ascii "line letters carets length record\n"
     ++ ascii "1 3 3 3 010008000000010001000102000400000001\n"
@@ -118,6 +144,7 @@ worked = record {
   read-dead-end = read-dead-end;
   pair-dead-end = measured (word "aabAAAAAbaaaB") 8 11 (omega arith) refl refl;
   spelled-dead-end = spelled-dead-end;
+  phrased-dead-end = phrased-dead-end;
   limit-printed = refl;
   relator1-printed = refl;
   relator2-printed = refl;

@@ -10,6 +10,7 @@ pub mod Forms
 pub mod Trees
 pub mod Lengths
 pub mod Spellings
+pub mod Texts
 pub mod Receipts
 pub mod Sentences
 pub mod Worked

@@ -7,6 +7,7 @@
 --     HasForm t f, HasRecord t s   the text t is a word, with the form f, with the record s
 --     Measures s n l               the record s is read, N is n and the length is l
 --     IsSpelled s t                the record s is read, and spelled as the text t
+--     IsPhrased s t                the record s is that of the text t in subscript notation, and is written as t
 -- Assumes nothing.
 use mathlib.Core.Path.{_≡_}
 use mathlib.Core.List.{List, [], _∷_, _++_}
@@ -22,6 +23,7 @@ use Rattle.group.specs.Reducing.{Reduced, Applies}
 use Rattle.group.specs.Products.{formOf}
 use Rattle.group.specs.Texts.{wordOf}
 use Rattle.group.specs.Limits.{limit}
+use Rattle.group.specs.Powers.{SignedPower}
 use Rattle.refusals.specs.Outcomes.{accepted, refused, valued}
 use Rattle.records.specs.Format.{Power, power, entries, bTag, aTag, encode}
 use Rattle.fields.specs.Fields.{field}
@@ -32,6 +34,9 @@ use Rattle.lengths.specs.Kinds.{Kind, L0, LL, RI, RN, R0, I0, IR, kinds}
 use Rattle.lengths.specs.Weights.{weight, formLength}
 use Rattle.spelling.specs.Spelling.{spelling}
 use Rattle.spelling.specs.Contracts.{spelledIn}
+use Rattle.tokens.specs.Texts.{textOf}
+use Rattle.forest.specs.Filling.{productForm}
+use Rattle.notation.specs.Contracts.{textIn}
 use Rattle.words.specs.Recording.{encodeWord}
 use Rattle.numerals.specs.Decimals.{ascii}
 use Rattle.rows.specs.Receipts.{outputOf}
@@ -58,6 +63,13 @@ pub record IsSpelled (s : List ℕ) (t : String) : Type 0 where
   pub word : Word
   pub text : wordOf t ≡ some word
   pub spelled : spelledIn s (length word) ≡ accepted word
+
+-- What text to record writes, and what record to text writes, into a buffer of exactly as many bytes.
+pub record IsPhrased (s : List ℕ) (t : String) : Type 0 where
+  pub powers : List SignedPower
+  pub text : ascii t ≡ textOf powers
+  pub recorded : encode (productForm powers) ≡ s
+  pub phrased : textIn s (ascii t) ≡ accepted (ascii t)
 
 -- 010000020000 and 01000400010001020000, byte by byte.
 abbrev pub emptyRecord : List ℕ
@@ -119,6 +131,8 @@ pub record Worked : Type 0 where
   pub read-dead-end : decode deadEndRecord ≡ accepted deadEnd
   pub pair-dead-end : Measures deadEndRecord 8 11
   pub spelled-dead-end : IsSpelled deadEndRecord "aabAAAAAbaaaB"
+  -- 02, [1]: the same in subscript notation.
+  pub phrased-dead-end : IsPhrased deadEndRecord "x0^2 x1 x6 x3^-1 x0^-2"
   -- 01, 'Letters and maps': a word has at most 4,096 letters; the relators.
   pub limit-printed : limit ≡ 4096
   pub relator1-printed : wordOf "aBAbabAABa" ≡ some relator1
