@@ -1,0 +1,56 @@
+-- What the functions that record a text's powers ask and promise one another. Assumes nothing.
+use mathlib.Core.Path.{_≡_}
+use mathlib.Core.List.{List}
+use Prim.Native.Nat.{ℕ, suc, _≤_}
+use lib.ListN.{length, take}
+use lib.Seq.{sets}
+use Rattle.group.specs.Forms.{bSide, aSide, levels}
+use Rattle.group.specs.Limits.{limit}
+use Rattle.group.specs.Powers.{SignedPower, powersIn, exponentSizes}
+use Rattle.refusals.specs.declared.Refusal.{Refusal}
+use Rattle.refusals.specs.declared.Reply.{Reply}
+use Rattle.refusals.specs.Outcomes.{Outcome, accepted, refused, after, then, valued, dropValue, refusal, replyOf}
+use Rattle.records.specs.Format.{encode}
+use Rattle.forest.specs.declared.Filling.{Filling}
+use Rattle.forest.specs.declared.Filling.the-variants.{Filled}
+use Rattle.forest.specs.Filling.{productForm, tablesFor, productTable}
+use Rattle.forest.specs.inside.Filling.{fillingOf}
+use Rattle.words.specs.Recording.{Memory}
+use Rattle.tokens.specs.Tokens.{AllInRange}
+use Rattle.notation.specs.Contracts.{roomFor}
+
+-- The powers that the first entries of three arrays hold.
+abbrev pub heldPowers : (count : ℕ) (ks es ss : List ℕ) → List SignedPower
+heldPowers n ks es ss = powersIn (take n ks) (take n es) (take n ss)
+
+-- The arrays hold so many powers; they are in range, and their sizes sum to at most the limit.
+pub record Kept (count : ℕ) (ks es ss : List ℕ) : Type 0 where
+  pub ks-long : count ≤ length ks
+  pub es-long : count ≤ length es
+  pub ss-long : count ≤ length ss
+  pub in-range : AllInRange (heldPowers count ks es ss)
+  pub small : exponentSizes (heldPowers count ks es ss) ≤ limit
+
+-- The exponents of the powers' form were written into the two tables: 11, then 6.
+pub record FilledBy (ps : List SignedPower) (b a b′ a′ : List ℕ) (r : Filling) : Type 0 where
+  pub result : fillingOf r ≡ dropValue (tablesFor (length b) (length a) ps)
+  pub b-table : b′ ≡ productTable bSide (tablesFor (length b) (length a) ps) b
+  pub a-table : a′ ≡ productTable aSide (tablesFor (length b) (length a) ps) a
+  pub levels-read : (n : ℕ) → r ≡ Filled n → tablesFor (length b) (length a) ps ≡ accepted ps
+      → (levels (productForm ps) ≤ n) × (n ≤ suc limit)
+
+-- The refusal of powers beside tables of these lengths, where the buffer is too short.
+abbrev pub ShortRoom : (ps : List SignedPower) (nb na : ℕ) → Refusal → Type 0
+ShortRoom ps nb na r = refusal r ≡ then (tablesFor nb na ps) (λ qs. refused {A = ℕ} 7 0)
+
+-- What is found of powers, beside the memory that is lent.
+abbrev pub judgedProduct : List SignedPower → Memory → Outcome (List SignedPower)
+judgedProduct ps m = roomFor (length (m .b)) (length (m .a)) (length (m .buffer)) ps
+
+-- The tables and the record of powers were written, or what is refused of them.
+pub record ProductRecorded (ps : List SignedPower) (entry exit : Memory) (r : Reply) : Type 0 where
+  pub result : replyOf r ≡ valued (λ qs. length (encode (productForm qs))) (judgedProduct ps entry)
+  pub b-table : exit .b ≡ productTable bSide (judgedProduct ps entry) (entry .b)
+  pub a-table : exit .a ≡ productTable aSide (judgedProduct ps entry) (entry .a)
+  pub bytes : exit .buffer
+      ≡ after (judgedProduct ps entry) (entry .buffer) (λ qs. sets (entry .buffer) 0 (encode (productForm qs)))

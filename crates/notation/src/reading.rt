@@ -1,0 +1,129 @@
+// The powers of a text: the tables and the record of their product.
+ghost use Prim.Native.Nat.{_≤_};
+ghost use lib.ListN.{length};
+ghost use Rattle.group.specs.Powers.{exponentSizes};
+ghost use Rattle.records.specs.Format.{bufferSize};
+ghost use Rattle.words.specs.Recording.{memory};
+ghost use Rattle.notation.specs.inside.Products.{heldPowers, Kept, FilledBy, ShortRoom, ProductRecorded};
+use forest::Filling;
+use refusals::LIMIT;
+use refusals::Refusal;
+use refusals::Reply;
+use tokens::Powers;
+
+// The exponents of the product's reduced form, in two tables; the scratch of the engine is the function's own.
+fn fill(
+    indices: &[u16; LIMIT],
+    exponents: &[u16; LIMIT],
+    sides: &[u8; LIMIT],
+    count: usize,
+    b_table: &mut [u16],
+    a_table: &mut [u16],
+) -> Filling
+    requires { ⌜ Kept count (now indices) (now exponents) (now sides) ⌝ }
+    ensures { λ r. ⌜ FilledBy (heldPowers count (now (indices .entry)) (now (exponents .entry)) (now (sides .entry)))
+        (now («b_table» .entry)) (now («a_table» .entry)) (now («b_table» .exit)) (now («a_table» .exit)) r ⌝ }
+{
+    let mut lefts = [0u16; forest::CELLS];
+    let mut rights = [0u16; forest::CELLS];
+    let mut before = [0u16; forest::FRONT_ROOM];
+    let mut stack = [0u16; forest::ROW_ROOM];
+    forest::fill_powers(
+        &indices[..count],
+        &exponents[..count],
+        &sides[..count],
+        b_table,
+        a_table,
+        &mut lefts,
+        &mut rights,
+        &mut before,
+        &mut stack,
+    )
+}
+
+// Why powers are refused where the record buffer is too short: 11 and 6 come first. Nothing that is lent is touched.
+fn refuse_short(
+    indices: &[u16; LIMIT],
+    exponents: &[u16; LIMIT],
+    sides: &[u8; LIMIT],
+    count: usize,
+    b_length: usize,
+    a_length: usize,
+) -> Refusal
+    requires { ⌜ Kept count (now indices) (now exponents) (now sides) ⌝ }
+    ensures { λ r. ⌜ ShortRoom (heldPowers count (now (indices .entry)) (now (exponents .entry)) (now (sides .entry)))
+        «b_length» «a_length» r ⌝ }
+{
+    let mut b = [0u16; LIMIT + 1];
+    let mut a = [0u16; LIMIT + 1];
+    let filling = fill(indices, exponents, sides, count, &mut b, &mut a);
+    if let Filling::Refused(r) = filling {
+        return r;
+    }
+    if b_length <= LIMIT {
+        return Refusal::ShortTable;
+    }
+    if a_length <= LIMIT {
+        return Refusal::ShortTable;
+    }
+    Refusal::ShortBuffer
+}
+
+// The tables and the record of powers, where the buffer is long enough.
+fn write_powers(
+    indices: &[u16; LIMIT],
+    exponents: &[u16; LIMIT],
+    sides: &[u8; LIMIT],
+    count: usize,
+    b_table: &mut [u16],
+    a_table: &mut [u16],
+    record: &mut [u8],
+) -> Reply
+    requires { ⌜ Kept count (now indices) (now exponents) (now sides) ⌝ }
+    requires { ⌜ bufferSize (exponentSizes (heldPowers count (now indices) (now exponents) (now sides)))
+        ≤ length (now «record») ⌝ }
+    ensures { λ r. ⌜ ProductRecorded
+        (heldPowers count (now (indices .entry)) (now (exponents .entry)) (now (sides .entry)))
+        (memory (now («b_table» .entry)) (now («a_table» .entry)) (now («record» .entry)))
+        (memory (now («b_table» .exit)) (now («a_table» .exit)) (now («record» .exit))) r ⌝ }
+{
+    let filling = fill(indices, exponents, sides, count, b_table, a_table);
+    if let Filling::Refused(r) = filling {
+        return Reply::Refused(r);
+    }
+    let n = forest::levels_read(filling);
+    let encoding = encoding::write_record(&b_table[..n], &a_table[..n], record);
+    Reply::Number(encoding::bytes_written(encoding))
+}
+
+// Powers beside the memory that is lent: 11, 6 and 7, in this order; else the tables and the record of their product.
+pub fn record_powers(
+    indices: &[u16; LIMIT],
+    exponents: &[u16; LIMIT],
+    sides: &[u8; LIMIT],
+    powers: Powers,
+    b_table: &mut [u16],
+    a_table: &mut [u16],
+    record: &mut [u8],
+) -> Reply
+    requires { ⌜ Kept (powers .count) (now indices) (now exponents) (now sides) ⌝ }
+    requires { ⌜ powers .sum ≡ exponentSizes
+        (heldPowers (powers .count) (now indices) (now exponents) (now sides)) ⌝ }
+    ensures { λ r. ⌜ ProductRecorded
+        (heldPowers (powers .count) (now (indices .entry)) (now (exponents .entry)) (now (sides .entry)))
+        (memory (now («b_table» .entry)) (now («a_table» .entry)) (now («record» .entry)))
+        (memory (now («b_table» .exit)) (now («a_table» .exit)) (now («record» .exit))) r ⌝ }
+{
+    let count = powers.count;
+    if record.len() < records::BASE_SIZE + 4 * powers.sum {
+        return Reply::Refused(refuse_short(
+            indices,
+            exponents,
+            sides,
+            count,
+            b_table.len(),
+            a_table.len(),
+        ));
+    }
+    write_powers(indices, exponents, sides, count, b_table, a_table, record)
+}
