@@ -7,6 +7,7 @@
 #include <string.h>
 
 static const uint8_t identity[6] = {1, 0, 0, 2, 0, 0};
+static char text[THOMPSON_TEXT(THOMPSON_LIMIT)];
 static uint8_t word[THOMPSON_LIMIT + 1], record[THOMPSON_RECORD(THOMPSON_LIMIT)], record2[6];
 static uint16_t b_table[THOMPSON_TABLE(THOMPSON_LIMIT)], a_table[THOMPSON_TABLE(THOMPSON_LIMIT)];
 static uint16_t b_table2[1], a_table2[1];
@@ -28,6 +29,13 @@ static void null_pointers(void) {
     row("record check, no record", thompson_check_record(0, 0), 3, 0);
     row("record to word, no record", thompson_record_to_word(0, 0, 0, 0), 3, 0);
     row("record to word, identity, no buffer", thompson_record_to_word(identity, 6, 0, 0), 0, 0);
+    row("text to record, no text",
+        thompson_text_to_record(0, 0, b_table, THOMPSON_FULL_TABLE, a_table, THOMPSON_FULL_TABLE, record, 6), 0, 6);
+    row("text to record, no table", thompson_text_to_record(0, 0, 0, 0, 0, 0, record, 6), 6, 0);
+    row("text to record, no buffer",
+        thompson_text_to_record(0, 0, b_table, THOMPSON_FULL_TABLE, a_table, THOMPSON_FULL_TABLE, 0, 0), 7, 0);
+    row("record to text, no record", thompson_record_to_text(0, 0, 0, 0), 3, 0);
+    row("record to text, identity, no buffer", thompson_record_to_text(identity, 6, 0, 0), 0, 0);
     row("record to tree pair, no record", thompson_record_to_tree_pair(0, 0, 0, 0, 0, 0), 3, 0);
     row("record to tree pair, identity, no buffers", thompson_record_to_tree_pair(identity, 6, 0, 0, 0, 0), 7, 0);
     row("record to length, no record", thompson_record_to_length(0, 0), 3, 0);
@@ -76,8 +84,58 @@ static void sizes(void) {
     row("x_LIMIT alone, spelled", thompson_record_to_word(record, put_power(1), word, THOMPSON_LIMIT), 8, 0);
 }
 
+/* A text whose exponents' sizes sum to n, with tables and a buffer that are so many elements short. */
+static thompson_answer text_sent(size_t n, size_t b_short, size_t a_short, size_t record_short) {
+    return thompson_text_to_record((const uint8_t *)text, strlen(text), b_table, THOMPSON_FULL_TABLE - b_short, a_table,
+                                   THOMPSON_FULL_TABLE - a_short, record, THOMPSON_RECORD(n) - record_short);
+}
+
+/* The same with nothing lent. */
+static thompson_answer text_alone(void) {
+    return thompson_text_to_record((const uint8_t *)text, strlen(text), 0, 0, 0, 0, 0, 0);
+}
+
+/* The inverses of x_LIMIT to x_1, as a text; its bytes. */
+static size_t put_inverses(void) {
+    size_t n = 0;
+    for (unsigned i = THOMPSON_LIMIT; i > 0; i--) n += sprintf(text + n, i > 1 ? "x%u^-1 " : "x%u^-1", i);
+    return n;
+}
+
+/* A record into a text buffer of n bytes. */
+static thompson_answer text_back(size_t record_bytes, size_t n) {
+    return thompson_record_to_text(record, record_bytes, (uint8_t *)text, n);
+}
+
+/* The sizes of the header, for texts. */
+static void text_sizes(void) {
+    printf("the sizes of the header, texts: refusal, value\n");
+    sprintf(text, "x0^%d", THOMPSON_LIMIT);
+    row("an exponent of THOMPSON_LIMIT", text_sent(THOMPSON_LIMIT, 0, 0, 0), 0, 10);
+    row("the b table of THOMPSON_LIMIT entries", text_sent(THOMPSON_LIMIT, 1, 0, 0), 6, 0);
+    row("the a table of THOMPSON_LIMIT entries", text_sent(THOMPSON_LIMIT, 0, 1, 0), 6, 0);
+    row("the record buffer one byte short", text_sent(THOMPSON_LIMIT, 0, 0, 1), 7, 0);
+    sprintf(text, "x0^%d x0", THOMPSON_LIMIT);
+    row("one more in all, nothing lent", text_alone(), 10, 0);
+    sprintf(text, "x1 x1^-1");
+    row("x1 and its inverse", text_sent(2, 0, 0, 0), 0, 6);
+    row("the record buffer one byte short", text_sent(2, 0, 0, 1), 7, 0);
+    sprintf(text, "x0 x%d", THOMPSON_LIMIT);
+    row("x0 and x_LIMIT", text_sent(2, 0, 0, 0), 0, 14);
+    sprintf(text, "x%d x0", THOMPSON_LIMIT);
+    row("x_LIMIT and x0, nothing lent", text_alone(), 11, 0);
+    sprintf(text, "x0 x%d", THOMPSON_LIMIT + 1);
+    row("an index above THOMPSON_LIMIT, nothing lent", text_alone(), 9, 3);
+    size_t n = put_inverses();
+    uint64_t all = text_sent(THOMPSON_LIMIT, 0, 0, 0).value;
+    row("THOMPSON_LIMIT tokens", text_sent(THOMPSON_LIMIT, 0, 0, 0), 0, THOMPSON_RECORD(THOMPSON_LIMIT));
+    row("their record in a text buffer of their size", text_back(all, n), 0, n);
+    row("the text buffer one byte short", text_back(all, n - 1), 7, 0);
+}
+
 int main(void) {
     null_pointers();
     sizes();
+    text_sizes();
     return wrong;
 }

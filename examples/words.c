@@ -1,5 +1,5 @@
-/* A program in C over libthompson.a: for each word on the command line its record, its tree pair and its length, and
-   a word that the record spells.
+/* A program in C over libthompson.a: for each word on the command line its record, its tree pair and its length, a word
+   that the record spells, and its text in subscript notation.
        words abA ba */
 #include "thompson.h"
 
@@ -8,7 +8,7 @@
 #include <string.h>
 
 static uint16_t b_table[THOMPSON_TABLE(THOMPSON_LIMIT)], a_table[THOMPSON_TABLE(THOMPSON_LIMIT)];
-static uint8_t record[THOMPSON_RECORD(THOMPSON_LIMIT)], letters[THOMPSON_LIMIT];
+static uint8_t record[THOMPSON_RECORD(THOMPSON_LIMIT)], letters[THOMPSON_LIMIT], text[THOMPSON_TEXT(THOMPSON_LIMIT)];
 static uint8_t t_minus[THOMPSON_SHAPE(THOMPSON_CARETS)], t_plus[THOMPSON_SHAPE(THOMPSON_CARETS)];
 
 /* Whether the call was accepted; else its refusal is printed. */
@@ -48,6 +48,8 @@ static void print_word(const char *word) {
     if (accepted("length", length)) printf("  length %" PRIu64 "\n", length.value);
     thompson_answer spelled = thompson_record_to_word(record, written.value, letters, sizeof letters);
     if (accepted("spelling", spelled)) printf("  spelled %.*s\n", (int)spelled.value, (const char *)letters);
+    thompson_answer noted = thompson_record_to_text(record, written.value, text, sizeof text);
+    if (accepted("text", noted)) printf("  text %.*s\n", (int)noted.value, (const char *)text);
 }
 
 int main(int argc, char **argv) {

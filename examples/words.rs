@@ -1,6 +1,7 @@
-// A program in Rust over libthompson.a: for each word on the command line its record, its tree pair and its length, and
-// a word that the record spells. The module `thompson` is a safe face of the calls: a Rust slice is a valid pointer
-// with its length, and a `&mut` slice overlaps nothing else, which is all that the calls ask.
+// A program in Rust over libthompson.a: for each word on the command line its record, its tree pair and its length, a
+// word that the record spells, and its text in subscript notation. The module `thompson` is a safe face of the calls: a
+// Rust slice is a valid pointer with its length, and a `&mut` slice overlaps nothing else, which is all that the calls
+// ask.
 //     words abA ba
 
 mod thompson {
@@ -11,9 +12,10 @@ mod thompson {
         value: u64,
     }
 
-    // The most letters of a word, and the most carets of a tree.
+    // The most letters of a word, the most carets of a tree, and bytes that are enough for the text of any record.
     pub const LIMIT: usize = 4096;
     const CARETS: usize = 2 * LIMIT + 1;
+    const TEXT: usize = 9 * LIMIT;
 
     // Why a call refused: the number and the place.
     pub struct Refused {
@@ -40,6 +42,7 @@ mod thompson {
             record_size: usize,
         ) -> Answer;
         fn thompson_record_to_word(record: *const u8, record_size: usize, word: *mut u8, word_size: usize) -> Answer;
+        fn thompson_record_to_text(record: *const u8, record_size: usize, text: *mut u8, text_size: usize) -> Answer;
         fn thompson_record_to_tree_pair(
             record: *const u8,
             record_size: usize,
@@ -86,6 +89,14 @@ mod thompson {
             unsafe { thompson_record_to_word(record.as_ptr(), record.len(), letters.as_mut_ptr(), letters.len()) };
         letters.truncate(value(answer)?);
         Ok(letters)
+    }
+
+    // The text of a record in subscript notation.
+    pub fn text(record: &[u8]) -> Result<Vec<u8>, Refused> {
+        let mut bytes = vec![0u8; TEXT];
+        let answer = unsafe { thompson_record_to_text(record.as_ptr(), record.len(), bytes.as_mut_ptr(), bytes.len()) };
+        bytes.truncate(value(answer)?);
+        Ok(bytes)
     }
 
     // The tree pair of a record.
@@ -151,6 +162,10 @@ fn print_word(word: &[u8]) {
     match thompson::word(&record) {
         Ok(letters) => print_bytes("  spelled", &letters),
         Err(refused) => print_refused("spelling", refused),
+    }
+    match thompson::text(&record) {
+        Ok(text) => print_bytes("  text", &text),
+        Err(refused) => print_refused("text", refused),
     }
 }
 

@@ -21,7 +21,10 @@
    examples/run, and not proved.)
 
    Words are bytes `a`, `A`, `b`, `B`, for x0, its inverse, x1, its inverse; the rightmost letter acts first. A word
-   has at most THOMPSON_LIMIT letters. A record is the bytes of a reduced form; each element has one. */
+   has at most THOMPSON_LIMIT letters. A record is the bytes of a reduced form; each element has one. A text is in
+   subscript notation, as in `x0^2 x1 x6 x3^-1 x0^-2`: tokens one space apart, each an `x`, an index and, unless the
+   exponent is 1, a `^` and the exponent, which is not 0 and at most THOMPSON_LIMIT in size; decimals without leading
+   zeros. An empty token, as in front of a first space, is misspelled; the empty text has none and is the empty word. */
 #ifndef THOMPSON_H
 #define THOMPSON_H
 
@@ -32,14 +35,19 @@
 extern "C" {
 #endif
 
-/* The most letters of a word; also the highest index and the highest sum of exponents of a record. */
+/* The most letters of a word; also the highest index and the highest sum of exponents of a record, and the highest
+   index and the highest sum of the sizes of exponents of a text. */
 #define THOMPSON_LIMIT 4096
 
-/* The entries that each table needs for a word of n letters. */
+/* The entries that each table needs for a word of n letters, and for any text. */
 #define THOMPSON_TABLE(n) ((size_t)(n) + 1)
+#define THOMPSON_FULL_TABLE THOMPSON_TABLE(THOMPSON_LIMIT)
 
-/* The bytes that the record buffer needs for a word of n letters. */
+/* The bytes that the record buffer needs for a word of n letters, or for a text whose exponents' sizes sum to n. */
 #define THOMPSON_RECORD(n) (6 + 4 * (size_t)(n))
+
+/* Bytes that are enough for the text of a record whose exponents sum to n: `x4096^-1` and a space, n times. */
+#define THOMPSON_TEXT(n) (9 * (size_t)(n))
 
 /* The most carets of a tree, and the bytes of the shape of a tree with n carets. */
 #define THOMPSON_CARETS (2 * THOMPSON_LIMIT + 1)
@@ -55,7 +63,10 @@ enum {
     THOMPSON_NOT_REDUCED = 5,      /* the form is not reduced; place: the smallest index that breaks the clause */
     THOMPSON_SHORT_TABLE = 6,      /* a table too short; place 0 */
     THOMPSON_SHORT_BUFFER = 7,     /* an output buffer too short; place 0 */
-    THOMPSON_LONG_SPELLING = 8     /* the spelling has more letters than the limit; place 0 */
+    THOMPSON_LONG_SPELLING = 8,    /* the spelling has more letters than the limit; place 0 */
+    THOMPSON_MISSPELLED = 9,       /* a misspelled token, or an index above the limit; place: the offset of the first */
+    THOMPSON_LARGE_EXPONENTS = 10, /* the sizes of the exponents sum above the limit; place 0 */
+    THOMPSON_HIGH_INDEX = 11       /* the reduced form has an index above the limit; place 0 */
 };
 
 /* A refusal's number and place, or 0 and the call's value. */
@@ -83,6 +94,22 @@ thompson_answer thompson_check_record(const uint8_t *record, size_t record_size)
    Value: the number of letters, which stand at the front of the buffer; bytes beyond are unchanged.
    Refusals, in this order: 3, 4, 5, 8, 7. */
 thompson_answer thompson_record_to_word(const uint8_t *record, size_t record_size, uint8_t *word, size_t word_size);
+
+/* Text to record.
+   Lent: the text, all its bytes; two tables of at least THOMPSON_FULL_TABLE entries each; a record buffer of at least
+   6 + 4 n bytes, where n is the sum of the sizes of the exponents.
+   Value: the bytes of the record, which stand at the front of the buffer. Entry i of the tables, for i up to
+   THOMPSON_LIMIT, is then the exponent of x_i (b table) and of its inverse (a table). Everything beyond is unchanged.
+   Refusals, in this order: 9, 10, 11, 6, 7. */
+thompson_answer thompson_text_to_record(const uint8_t *text, size_t text_size, uint16_t *b_table, size_t b_entries,
+                                        uint16_t *a_table, size_t a_entries, uint8_t *record, size_t record_size);
+
+/* Record to text: a token for each power of the form, in order.
+   Lent: the record; a buffer with a byte for each byte of the text, THOMPSON_TEXT(THOMPSON_LIMIT) bytes at most.
+   Value: the bytes of the text, which stand at the front of the buffer; bytes beyond are unchanged. No byte 0 is put
+   behind them.
+   Refusals, in this order: 3, 4, 5, 7. */
+thompson_answer thompson_record_to_text(const uint8_t *record, size_t record_size, uint8_t *text, size_t text_size);
 
 /* Record to tree pair.
    Lent: the record; two buffers of at least 2 N + 1 bytes, THOMPSON_SHAPE(THOMPSON_CARETS) at most.
