@@ -1,5 +1,5 @@
 -- The answers of the record writer, case by case. Assumes nothing.
-use mathlib.Core.Path.{_≡_, refl, ap}
+use mathlib.Core.Path.{_≡_, refl, sym, ap}
 use mathlib.Core.List.{List}
 use Prim.Native.Nat.{ℕ, suc, _<_, _≤_}
 use native.Mathlib.Omega.{arith}
@@ -9,10 +9,17 @@ use Rattle.lists.specs.inside.Writes.{Wrote}
 use Rattle.group.specs.Limits.{limit}
 use Rattle.refusals.specs.Outcomes.{accepted, refused}
 use Rattle.refusals.specs.declared.Refusal.the-variants.{ShortBuffer}
+use Rattle.refusals.proofs.Outcomes.{accepted-same, accepted-refused}
 use Rattle.encoding.specs.declared.Encoding.{Encoding}
 use Rattle.encoding.specs.declared.Encoding.the-variants.{Bytes, Refused, Unfit}
 use Rattle.records.specs.Format.{recordOf}
-use Rattle.encoding.specs.inside.Contracts.{encodingOf, encodeTables, Encoded}
+use Rattle.encoding.specs.inside.Contracts.{encodingOf, bytesWritten, encodeTables, Encoded}
+
+-- The number of bytes, where the record was written.
+pub bytes-written : (e : Encoding) (n : ℕ) → encodingOf e ≡ accepted n → bytesWritten e ≡ n
+bytes-written (Bytes k) n h = accepted-same h
+bytes-written (Refused r) n h = absurd (accepted-refused (sym h))
+bytes-written Unfit n h = absurd (accepted-refused (sym h))
 
 refuses : {b a s : List ℕ} {number place : ℕ} {r : Encoding} → encodeTables b a (length s) ≡ refused number place
     → encodingOf r ≡ refused number place → Encoded b a s s r

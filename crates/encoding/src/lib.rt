@@ -1,5 +1,6 @@
 // Records written from two tables of exponents.
-ghost use Rattle.encoding.specs.inside.Contracts.{Encoded};
+ghost use mathlib.Core.Path.{_≡_};
+ghost use Rattle.encoding.specs.inside.Contracts.{bytesWritten, Encoded};
 use records::BASE_SIZE;
 use refusals::LIMIT;
 use refusals::Refusal;
@@ -11,6 +12,17 @@ pub enum Encoding {
     Bytes(usize),
     Refused(Refusal),
     Unfit,
+}
+
+// The number of bytes of a record that was written. A refusal has none, and 0 stands for it; no caller asks it there.
+pub fn bytes_written(encoding: Encoding) -> usize
+    ensures { λ r. ⌜ r ≡ bytesWritten encoding ⌝ }
+{
+    match encoding {
+        Encoding::Bytes(n) => n,
+        Encoding::Refused(_) => 0,
+        Encoding::Unfit => 0,
+    }
 }
 
 // The record of two tables of exponents, written at the front of a buffer, which may be longer.

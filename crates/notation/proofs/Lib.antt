@@ -1,2 +1,3 @@
 -- Laws of the two calls on subscript notation.
 pub mod FormRanges
+pub mod HeldPowers

@@ -4,14 +4,26 @@ ghost use lib.ListN.{length};
 ghost use Rattle.group.specs.Powers.{exponentSizes};
 ghost use Rattle.records.specs.Format.{bufferSize};
 ghost use Rattle.words.specs.Recording.{memory};
-ghost use Rattle.notation.specs.inside.Products.{heldPowers, Kept, FilledBy, ShortRoom, ProductRecorded};
+ghost use Rattle.notation.specs.inside.Products.{heldPowers, Kept, fillingReply, FilledBy, ShortRoom};
+ghost use Rattle.notation.specs.inside.Products.{ProductRecorded};
 use forest::Filling;
 use refusals::LIMIT;
 use refusals::Refusal;
 use refusals::Reply;
 use tokens::Powers;
 
-// The exponents of the product's reduced form, in two tables; the scratch of the engine is the function's own.
+// The engine's answer as a reply.
+fn reply(filling: Filling) -> Reply
+    ensures { λ r. ⌜ r ≡ fillingReply filling ⌝ }
+{
+    match filling {
+        Filling::Filled(n) => Reply::Number(n),
+        Filling::Refused(r) => Reply::Refused(r),
+        Filling::Unfit => Reply::Number(0),
+    }
+}
+
+// The exponents of the product's reduced form, in two tables, and how many levels were read; the scratch of the engine is the function's own.
 fn fill(
     indices: &[u16; LIMIT],
     exponents: &[u16; LIMIT],
@@ -19,7 +31,7 @@ fn fill(
     count: usize,
     b_table: &mut [u16],
     a_table: &mut [u16],
-) -> Filling
+) -> Reply
     requires { ⌜ Kept count (now indices) (now exponents) (now sides) ⌝ }
     ensures { λ r. ⌜ FilledBy (heldPowers count (now (indices .entry)) (now (exponents .entry)) (now (sides .entry)))
         (now («b_table» .entry)) (now («a_table» .entry)) (now («b_table» .exit)) (now («a_table» .exit)) r ⌝ }
@@ -28,7 +40,7 @@ fn fill(
     let mut rights = [0u16; forest::CELLS];
     let mut before = [0u16; forest::FRONT_ROOM];
     let mut stack = [0u16; forest::ROW_ROOM];
-    forest::fill_powers(
+    reply(forest::fill_powers(
         &indices[..count],
         &exponents[..count],
         &sides[..count],
@@ -38,7 +50,7 @@ fn fill(
         &mut rights,
         &mut before,
         &mut stack,
-    )
+    ))
 }
 
 // Why powers are refused where the record buffer is too short: 11 and 6 come first. Nothing that is lent is touched.
@@ -56,8 +68,8 @@ fn refuse_short(
 {
     let mut b = [0u16; LIMIT + 1];
     let mut a = [0u16; LIMIT + 1];
-    let filling = fill(indices, exponents, sides, count, &mut b, &mut a);
-    if let Filling::Refused(r) = filling {
+    let filled = fill(indices, exponents, sides, count, &mut b, &mut a);
+    if let Reply::Refused(r) = filled {
         return r;
     }
     if b_length <= LIMIT {
@@ -87,11 +99,11 @@ fn write_powers(
         (memory (now («b_table» .entry)) (now («a_table» .entry)) (now («record» .entry)))
         (memory (now («b_table» .exit)) (now («a_table» .exit)) (now («record» .exit))) r ⌝ }
 {
-    let filling = fill(indices, exponents, sides, count, b_table, a_table);
-    if let Filling::Refused(r) = filling {
+    let filled = fill(indices, exponents, sides, count, b_table, a_table);
+    if let Reply::Refused(r) = filled {
         return Reply::Refused(r);
     }
-    let n = forest::levels_read(filling);
+    let n = refusals::count_of(filled);
     let encoding = encoding::write_record(&b_table[..n], &a_table[..n], record);
     Reply::Number(encoding::bytes_written(encoding))
 }

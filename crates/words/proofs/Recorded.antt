@@ -15,11 +15,11 @@ use Rattle.group.specs.Limits.{limit}
 use Rattle.group.proofs.Bytes.{read-length}
 use Rattle.group.proofs.Sizes.{form-sum}
 use Rattle.refusals.specs.Outcomes.{Outcome, accepted, after, valued, dropValue}
-use Rattle.refusals.proofs.Outcomes.{accepted-same, accepted-refused}
+use Rattle.refusals.proofs.Outcomes.{accepted-refused}
 use Rattle.records.specs.Format.{recordOf}
-use Rattle.encoding.specs.inside.Contracts.{encodingOf, encodeTables, Encoded}
+use Rattle.encoding.specs.inside.Contracts.{bytesWritten, encodeTables, Encoded}
 use Rattle.encoding.specs.declared.Encoding.{Encoding}
-use Rattle.encoding.specs.declared.Encoding.the-variants.{Bytes, Refused, Unfit}
+use Rattle.encoding.proofs.WriteAnswers.{bytes-written}
 use Rattle.records.proofs.FormTables.{record-values}
 use Rattle.records.proofs.Lengths.{encode-size}
 use Rattle.forest.specs.Filling.{tableAfter}
@@ -28,14 +28,8 @@ use Rattle.forest.specs.declared.Filling.{Filling}
 use Rattle.forest.specs.declared.Filling.the-variants.{Filled, Refused as NotFilled, Unfit as NoScratch}
 use Rattle.words.specs.Recording.{memory, encodeWord, countRecord, bufferAfter}
 use Rattle.words.specs.inside.Writing.{Ready, WordWritten}
-use Rattle.words.specs.inside.Writing.{bytesWritten, countLevels}
+use Rattle.words.specs.inside.Writing.{countLevels}
 use Rattle.words.proofs.Judged.{RecordFit, accepted-record}
-
--- The number of bytes of a record, where it was written.
-pub bytes-written : (e : Encoding) (n : ℕ) → encodingOf e ≡ accepted n → bytesWritten e ≡ n
-bytes-written (Bytes k) n h = accepted-same h
-bytes-written (Refused r) n h = absurd (accepted-refused (sym h))
-bytes-written Unfit n h = absurd (accepted-refused (sym h))
 
 -- The number of levels read, where the tables were filled.
 filled-count : (f : Filling) → fillingOf f ≡ accepted 0 → f ≡ Filled (countLevels f)

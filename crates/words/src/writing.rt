@@ -3,23 +3,11 @@ ghost use mathlib.Core.Path.{_≡_};
 ghost use Prim.Native.Nat.{_≤_};
 ghost use lib.ListN.{length, take};
 ghost use Rattle.words.specs.Recording.{memory};
-ghost use Rattle.words.specs.inside.Writing.{bytesWritten, countLevels, Accepts, WordWritten};
+ghost use Rattle.words.specs.inside.Writing.{countLevels, Accepts, WordWritten};
 ghost use Rattle.words.specs.inside.Writing.{SaysSame, TwoWritten};
-use encoding::Encoding;
 use forest::CELLS;
 use forest::Filling;
 use forest::ROOM;
-
-// The number of bytes of a record that was written.
-fn bytes_written(encoding: Encoding) -> usize
-    ensures { λ r. ⌜ r ≡ bytesWritten encoding ⌝ }
-{
-    match encoding {
-        Encoding::Bytes(n) => n,
-        Encoding::Refused(_) => 0,
-        Encoding::Unfit => 0,
-    }
-}
 
 // The number of levels that the engine read.
 fn levels_read(filling: Filling) -> usize
@@ -50,7 +38,7 @@ pub fn write_word(
     let filling = forest::fill_tables(word, b_table, a_table, lefts, rights, stack);
     let n = levels_read(filling);
     let encoding = encoding::write_record(&b_table[..n], &a_table[..n], record);
-    bytes_written(encoding)
+    encoding::bytes_written(encoding)
 }
 
 // Whether the first n bytes of one buffer are the first m of another.

@@ -19,6 +19,12 @@ encodingOf (Bytes n) = accepted n
 encodingOf (Refused r) = refusal r
 encodingOf Unfit = refused 0 0
 
+-- The number of bytes of a record that was written; else 0.
+abbrev pub bytesWritten : Encoding → ℕ
+bytesWritten (Bytes n) = n
+bytesWritten (Refused r) = 0
+bytesWritten Unfit = 0
+
 -- The bytes of two tables' record, beside a buffer of the length n: tables with indices above the limit first, then 7.
 abbrev pub encodeTables : (b a : List ℕ) (n : ℕ) → Outcome (List ℕ)
 encodeTables b a n =

@@ -9,12 +9,12 @@ use Rattle.group.specs.Limits.{limit}
 use Rattle.group.specs.Powers.{SignedPower, powersIn, exponentSizes}
 use Rattle.refusals.specs.declared.Refusal.{Refusal}
 use Rattle.refusals.specs.declared.Reply.{Reply}
+use Rattle.refusals.specs.declared.Reply.the-variants.{Number, Refused}
 use Rattle.refusals.specs.Outcomes.{Outcome, accepted, refused, after, then, valued, dropValue, refusal, replyOf}
 use Rattle.records.specs.Format.{encode}
 use Rattle.forest.specs.declared.Filling.{Filling}
-use Rattle.forest.specs.declared.Filling.the-variants.{Filled}
+use Rattle.forest.specs.declared.Filling.the-variants.{Filled, Refused as NotFilled, Unfit}
 use Rattle.forest.specs.Filling.{productForm, tablesFor, productTable}
-use Rattle.forest.specs.inside.Filling.{fillingOf}
 use Rattle.words.specs.Recording.{Memory}
 use Rattle.tokens.specs.Tokens.{AllInRange}
 use Rattle.notation.specs.Contracts.{roomFor}
@@ -31,17 +31,24 @@ pub record Kept (count : ℕ) (ks es ss : List ℕ) : Type 0 where
   pub in-range : AllInRange (heldPowers count ks es ss)
   pub small : exponentSizes (heldPowers count ks es ss) ≤ limit
 
--- The exponents of the powers' form were written into the two tables: 11, then 6.
-pub record FilledBy (ps : List SignedPower) (b a b′ a′ : List ℕ) (r : Filling) : Type 0 where
-  pub result : fillingOf r ≡ dropValue (tablesFor (length b) (length a) ps)
+-- The number of levels that the engine read, or its refusal; scratch of other sizes is never met, and 0 stands for it.
+abbrev pub fillingReply : Filling → Reply
+fillingReply (Filled n) = Number n
+fillingReply (NotFilled r) = Refused r
+fillingReply Unfit = Number 0
+
+-- The exponents of the powers' form were written into the two tables: 11, then 6. The number is of levels read: the
+-- entries below it are all that a record of the form needs.
+pub record FilledBy (ps : List SignedPower) (b a b′ a′ : List ℕ) (r : Reply) : Type 0 where
+  pub result : dropValue (replyOf r) ≡ dropValue (tablesFor (length b) (length a) ps)
   pub b-table : b′ ≡ productTable bSide (tablesFor (length b) (length a) ps) b
   pub a-table : a′ ≡ productTable aSide (tablesFor (length b) (length a) ps) a
-  pub levels-read : (n : ℕ) → r ≡ Filled n → tablesFor (length b) (length a) ps ≡ accepted ps
+  pub levels-read : (n : ℕ) → r ≡ Number n → tablesFor (length b) (length a) ps ≡ accepted ps
       → (levels (productForm ps) ≤ n) × (n ≤ suc limit)
 
 -- The refusal of powers beside tables of these lengths, where the buffer is too short.
 abbrev pub ShortRoom : (ps : List SignedPower) (nb na : ℕ) → Refusal → Type 0
-ShortRoom ps nb na r = refusal r ≡ then (tablesFor nb na ps) (λ qs. refused {A = ℕ} 7 0)
+ShortRoom ps nb na r = _≡_ {A = Outcome ℕ} (refusal r) (then (tablesFor nb na ps) (λ qs. refused 7 0))
 
 -- What is found of powers, beside the memory that is lent.
 abbrev pub judgedProduct : List SignedPower → Memory → Outcome (List SignedPower)

@@ -7,8 +7,6 @@ use Prim.Native.Nat.{ℕ}
 use lib.ListN.{length, take}
 use Rattle.group.specs.Letters.{Word}
 use Rattle.refusals.specs.Outcomes.{accepted}
-use Rattle.encoding.specs.declared.Encoding.{Encoding}
-use Rattle.encoding.specs.declared.Encoding.the-variants.{Bytes, Refused, Unfit}
 use Rattle.forest.specs.declared.Filling.{Filling}
 use Rattle.forest.specs.declared.Filling.the-variants.{Filled, Refused as NotFilled, Unfit as NoScratch}
 use Rattle.forest.specs.inside.Filling.{cells, room}
@@ -44,12 +42,6 @@ pub record TwoWritten (word1 : List ℕ) (entry1 exit1 : Memory) (word2 : List �
   pub written1 : WordWritten word1 entry1 exit1 first
   pub written2 : WordWritten word2 entry2 exit2 second
   pub says : SaysSame (take first (exit1 .buffer)) (take second (exit2 .buffer)) r
-
--- The number of bytes of a record that was written.
-abbrev pub bytesWritten : Encoding → ℕ
-bytesWritten (Bytes n) = n
-bytesWritten (Refused r) = 0
-bytesWritten Unfit = 0
 
 -- The number of levels that the engine read.
 abbrev pub countLevels : Filling → ℕ
