@@ -5,11 +5,18 @@ pub mod Levels
 pub mod Irreducible
 pub mod ReadOff
 pub mod Counting
+-- the row with a cursor
+pub mod Cursor
+pub mod CursorBounds
 -- the row as it is stored, and the loop over the letters
 pub mod Stored
 pub mod Joining
 pub mod Moving
 pub mod Running
+-- powers on the stored row, and the loop over them
+pub mod Seeking
+pub mod PowerTurns
+pub mod RunPowers
 -- the tips read off
 pub mod Descent
 pub mod Piled

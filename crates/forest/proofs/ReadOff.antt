@@ -94,7 +94,7 @@ from-behind (suc i) ts = ap forestBehind (from-behind i ts)
 abbrev pub tipLevel : Side → List Bush → ℕ
 tipLevel s ts = onSide s (tipEdges (firstBush ts)) (tipExponent (firstBush ts))
 
-forest-exponent : (n : ℕ) (s : Side) (i : ℕ) (ts : List Bush) → IrreducibleForest n ts
+pub forest-exponent : (n : ℕ) (s : Side) (i : ℕ) (ts : List Bush) → IrreducibleForest n ts
     → exponent s (forestLevels ts) i ≡ tipLevel s (bushesFrom i ts)
 forest-exponent n s zero ts h = forest-level n ts h s 0
 forest-exponent n s (suc i) ts h =
