@@ -10,10 +10,11 @@ pub mod Stored
 pub mod Joining
 pub mod Moving
 pub mod Running
+pub mod Piled
 -- the tips read off
 pub mod Descent
-pub mod Piled
-pub mod Emitting
 pub mod Zeroing
+pub mod Reading
 -- the tables at exit
+pub mod RowTips
 pub mod Filled
