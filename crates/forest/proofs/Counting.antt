@@ -2,10 +2,9 @@
 use mathlib.Core.List.{List, [], _∷_}
 use Prim.Native.Nat.{ℕ, zero, suc, _+_, _≤_, _<_}
 use native.Mathlib.Omega.{arith}
-use Rattle.forest.specs.inside.Forest.{Bush, tip, fork, firstBush, laterBushes, putBush, bushesBehind}
+use Rattle.forest.specs.inside.Forest.{Bush, tip, fork, putBush, bushesBehind, forestBehind, bushesFrom}
 use Rattle.forest.specs.inside.Forest.{tips, forestTips}
 use Rattle.forest.proofs.Irreducible.{put-tips}
-use Rattle.forest.proofs.ReadOff.{bushesFrom}
 
 pub tips-some : (t : Bush) → 0 < tips t
 tips-some (tip n) = omega arith
@@ -15,8 +14,7 @@ behind-tips : (t : Bush) (ts : List Bush) → forestTips (bushesBehind t ts) + 1
 behind-tips (tip n) ts = omega arith
 behind-tips (fork x y) ts = omega (arith, behind-tips x (putBush y ts), put-tips y ts)
 
-forest-behind-tips : (ts : List Bush)
-    → forestTips (bushesBehind (firstBush ts) (laterBushes ts)) ≤ forestTips ts
+forest-behind-tips : (ts : List Bush) → forestTips (forestBehind ts) ≤ forestTips ts
 forest-behind-tips [] = omega arith
 forest-behind-tips (t ∷ ts) = omega (arith, behind-tips t ts)
 

@@ -11,13 +11,13 @@ use Rattle.group.specs.Products.{formOf}
 use Rattle.group.specs.Powers.{SignedPower, signedPower, productLetters, exponentSizes}
 use Rattle.group.proofs.Powers.{timesPower, form-power}
 use Rattle.forest.specs.inside.Forest.{Bush, tip, fork, rightPart, firstBush, laterBushes, putBush}
-use Rattle.forest.specs.inside.Forest.{tips, forestTips}
+use Rattle.forest.specs.inside.Forest.{tipAt, tips, forestTips}
 use Rattle.forest.specs.inside.Cursor.{Cursor, cursor, place, onward, goOn, goBack, seek, nextBush, nextRest}
 use Rattle.forest.specs.inside.Cursor.{powerFrom, powerHere, rewind, cursorBushes, cursorOf, IndicesWithin}
 use Rattle.forest.proofs.Irreducible.{IrreducibleForest, forest-more, join-irreducible, left-irreducible}
 use Rattle.forest.proofs.Irreducible.{right-irreducible, first-irreducible, later-irreducible, put-irreducible}
 use Rattle.forest.proofs.Irreducible.{put-tips, join-tips, part-tips, opened-tips}
-use Rattle.forest.proofs.ReadOff.{bushesFrom, tipLevel, forest-exponent}
+use Rattle.forest.proofs.ReadOff.{forest-exponent}
 use Rattle.forest.proofs.Cursor.{cursorLevels, power-levels, on-place, seek-place}
 
 -- The row of powers has the form of their letters.
@@ -178,7 +178,7 @@ cursor-tips m ps h = omega (arith, row-bounded m (exponentSizes ps) (cursorOf ps
 
 -- Tip i of the row has the exponents of index i of the form.
 pub cursor-exponent : (m : ℕ) (ps : List SignedPower) → IndicesWithin m ps → (s : Side) (i : ℕ)
-    → exponent s (formOf (productLetters ps)) i ≡ tipLevel s (bushesFrom i (cursorBushes (cursorOf ps)))
+    → exponent s (formOf (productLetters ps)) i ≡ tipAt s (cursorBushes (cursorOf ps)) i
 cursor-exponent m ps h s i =
     ap (λ (f : Form). exponent s f i) (sym (cursor-form ps))
     ∙ forest-exponent (exponentSizes ps) s i (cursorBushes (cursorOf ps)) (cursor-irreducible m ps h)

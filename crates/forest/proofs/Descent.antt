@@ -6,7 +6,7 @@ use Prim.Native.Nat.{ℕ, _+_, _-_, _≤_, _<_}
 use native.Mathlib.Omega.{arith}
 use lib.ListN.{getD, length}
 use Rattle.group.specs.Limits.{limit}
-use Rattle.forest.specs.inside.Filling.{cells, room}
+use Rattle.forest.specs.inside.Filling.{cells}
 use Rattle.forest.specs.inside.Forest.{Bush, tip, fork, putBush, tipEdges, tipExponent, bushesBehind}
 use Rattle.forest.specs.inside.Forest.{tips, forestTips}
 use Rattle.forest.specs.inside.Cells.{Stands, StackStands, Pushed}
@@ -34,17 +34,17 @@ pub standing-below : {lefts rights stack : List ℕ} {code height : ℕ} → Sta
 standing-below {lefts} {rights} {stack} {code} s =
     stands-below lefts rights cells (s .bush) code (omega arith) (s .stands)
 
--- What a turn asks: the code is a cell, the stack has room, and the next code is lower.
-pub record Turn (lefts : List ℕ) (code height : ℕ) : Type 0 where
+-- What a turn asks: the code is a cell, a stack of `most` entries has room, and the next code is lower.
+pub record Turn (most : ℕ) (lefts : List ℕ) (code height : ℕ) : Type 0 where
   pub code-high : code < cells
-  pub height-high : height < room
+  pub height-high : height < most
   pub lower : getD lefts code 0 < code
 
-turn : (lefts rights stack : List ℕ) (code height : ℕ) (t : Bush) (ts : List Bush) → limit < code
+turn : (most : ℕ) (lefts rights stack : List ℕ) (code height : ℕ) (t : Bush) (ts : List Bush) → limit < code
     → Stands lefts rights cells t code → StackStands lefts rights cells ts stack height
-    → tips t + forestTips ts ≤ room → Turn lefts code height
-turn lefts rights stack code height (tip n) ts p h s q = absurd (omega (arith, h .0, h .1))
-turn lefts rights stack code height (fork x y) ts p h s q = record {
+    → tips t + forestTips ts ≤ most → Turn most lefts code height
+turn most lefts rights stack code height (tip n) ts p h s q = absurd (omega (arith, h .0, h .1))
+turn most lefts rights stack code height (fork x y) ts p h s q = record {
   code-high = h .1;
   height-high = omega (arith, stack-height lefts rights cells ts stack height s, tips-some x, tips-some y);
   lower = stands-below lefts rights code x (getD lefts code 0) p (h .2);
@@ -89,10 +89,10 @@ module _ {lefts rights stack₀ : List ℕ} {whole low : ℕ} {stack : List ℕ}
   )
   at-tip t ts (fork x y) us p h s b = absurd (omega (arith, h .0))
 
-  pub walk-turn : Standing lefts rights stack₀ whole low → limit < code → Turn lefts code height
+  pub walk-turn : Standing lefts rights stack₀ whole low → limit < code → Turn (length stack₀) lefts code height
   walk-turn s p =
       let v = w .walked (s .bush) (s .behind) (s .stands) (s .stack-stands) in
-      turn lefts rights stack code height (v .bush) (v .behind) p (v .stands) (v .stack-stands)
+      turn (length stack₀) lefts rights stack code height (v .bush) (v .behind) p (v .stands) (v .stack-stands)
       (omega (arith, v .below .to-tips, s .few))
 
   pub walk-more : {stack′ : List ℕ} {height′ : ℕ} (k : ℕ) → k ≡ code → limit < code → getD lefts code 0 < code

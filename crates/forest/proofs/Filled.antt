@@ -22,9 +22,11 @@ use Rattle.forest.specs.declared.Filling.the-variants.{Filled, Refused a
 use Rattle.letters.specs.Judging.{judged}
 use Rattle.forest.specs.Filling.{tableAfter}
 use Rattle.forest.specs.inside.Filling.{cells, room, judgedIn, fillingOf, FilledTables}
-use Rattle.forest.specs.inside.Moves.{stepLetter, stepWord, Scratch}
-use Rattle.forest.specs.inside.Leaves.{LongTables, Tabled}
+use Rattle.forest.specs.inside.Forest.{tipAt}
+use Rattle.forest.specs.inside.Moves.{stepLetter, stepWord, Scratch, bushesOf, Piled}
+use Rattle.forest.specs.inside.Leaves.{TipsReady, TablesRead}
 use Rattle.letters.proofs.Judged.{accepted-fit}
+use Rattle.forest.proofs.RowTips.{row-ready, row-table, row-levels}
 
 -- On the bytes of a word the step reads that word.
 step-letter : (x : Letter) → stepLetter (byteOf x) ≡ x
@@ -40,11 +42,12 @@ step-bytes (x ∷ w) = ap₂ (λ (y : Letter) (v : Word). y ∷ v) (step-letter 
 step-word : (s : List ℕ) (w : Word) → readWord s ≡ isWord w → stepWord s ≡ w
 step-word s w h = ap stepWord (word-read s w h) ∙ step-bytes w
 
--- A table filled by the step's reading of a word's bytes is filled by the word.
+-- A table filled by the tips that the step makes of a word's bytes is filled by the word.
 as-read : (side : Side) (s : List ℕ) (w : Word) (t : List ℕ) → readWord s ≡ isWord w
-    → filled (length s + 1) (exponent side (formOf (stepWord s))) t ≡ filled (length w + 1) (exponent side (formOf w)) t
+    → filled (length s + 1) (tipAt side (bushesOf s)) t ≡ filled (length w + 1) (exponent side (formOf w)) t
 as-read side s w t h =
-    ap₂ (λ (n : ℕ) (v : Word). filled (n + 1) (exponent side (formOf v)) t) (read-length s w h) (step-word s w h)
+    row-table side s t
+    ∙ ap₂ (λ (n : ℕ) (v : Word). filled (n + 1) (exponent side (formOf v)) t) (read-length s w h) (step-word s w h)
 
 fit-judged : (word b a lefts rights stack : List ℕ) → length lefts ≡ cells → length rights ≡ cells → length stack ≡ room
     → judgedIn word b a lefts rights stack ≡ judged word (length b) (length a)
@@ -64,12 +67,14 @@ scratch-fit {word} {lefts} {rights} {stack} m n p q r e f =
       stack-length = r;
     }
 
-pub tables-long : {word b a : List ℕ} {v : Verdict} → v ≡ Accepted
-    → verdictOf v ≡ dropValue (judged word (length b) (length a)) → LongTables word b a
-tables-long {word} {b} {a} e f =
+-- With the row on the stack: what the read-off asks.
+pub tips-fit : {word b a lefts rights stack : List ℕ} {height : ℕ} {v : Verdict} → v ≡ Accepted
+    → verdictOf v ≡ dropValue (judged word (length b) (length a)) → Piled word lefts rights stack height
+    → TipsReady lefts rights stack height b a (length word + 1)
+tips-fit {word} {b} {a} e f piled =
     let (w, g) = drop-accepted (judged word (length b) (length a)) (sym (ap verdictOf e) ∙ f) in
     let fit = accepted-fit word (length b) (length a) w g in
-    record { b-long = fit .b-long; a-long = fit .a-long }
+    row-ready piled (fit .b-long) (fit .a-long)
 
 module _ {word b a lefts rights stack : List ℕ} where
   -- On a refusal all that was lent is kept.
@@ -110,10 +115,11 @@ module _ {word b a lefts rights stack : List ℕ} where
         refl
 
     -- What the engine leaves.
-    pub tables-filled : {b′ a′ lefts′ rights′ stack′ : List ℕ} {n : ℕ} (v : Verdict) → v ≡ Accepted
-        → verdictOf v ≡ dropValue (judged word (length b) (length a)) → Tabled word b a b′ a′ n
+    pub tables-filled : {b′ a′ lefts′ rights′ piled stack′ : List ℕ} {low n height : ℕ} (v : Verdict) → v ≡ Accepted
+        → verdictOf v ≡ dropValue (judged word (length b) (length a)) → Piled word lefts′ rights′ piled low
+        → TablesRead lefts′ rights′ piled low b a (length word + 1) stack′ b′ a′ n height
         → FilledTables word b a lefts rights stack b′ a′ lefts′ rights′ stack′ (Filled n)
-    tables-filled {b′} {a′} {lefts′} {rights′} {stack′} {n} v e f t =
+    tables-filled {b′} {a′} {lefts′} {rights′} {piled} {stack′} {low} {n} v e f on t =
         go (drop-accepted (judged word (length b) (length a)) (sym (ap verdictOf e) ∙ f))
       where
         go : (w : Word) × (judged word (length b) (length a) ≡ accepted w)
@@ -122,14 +128,15 @@ module _ {word b a lefts rights stack : List ℕ} where
             let fit = accepted-fit word (length b) (length a) w g in
             let o : judgedIn word b a lefts rights stack ≡ accepted w =
             fit-judged word b a lefts rights stack p q r ∙ g in
+            let taken = t .takes (bushesOf word) (on .stack-stands) in
             record {
               result = sym (ap dropValue o);
               b-table =
-                  t .b-table
+                  taken .0
                   ∙ as-read bSide word w b (fit .reads)
                   ∙ sym (ap (λ (u : Outcome Word). tableAfter bSide u b) o);
               a-table =
-                  t .a-table
+                  taken .1
                   ∙ as-read aSide word w a (fit .reads)
                   ∙ sym (ap (λ (u : Outcome Word). tableAfter aSide u a) o);
               scratch-kept = λ number place h. absurd (accepted-refused (sym o ∙ h));
@@ -140,7 +147,7 @@ module _ {word b a lefts rights stack : List ℕ} where
                     arith,
                     ap (λ (u : Word). levels (formOf u)) (step-word word w (fit .reads) ∙ same),
                     read-length word w (fit .reads) ∙ ap length same,
-                    t .levels-read .0,
-                    t .levels-read .1,
+                    row-levels word n (taken .3),
+                    t .within,
                   );
             }

@@ -13,14 +13,15 @@ pub mod Stored
 pub mod Joining
 pub mod Moving
 pub mod Running
+pub mod Piled
 -- powers on the stored row, and the loop over them
 pub mod Seeking
 pub mod PowerTurns
 pub mod RunPowers
 -- the tips read off
 pub mod Descent
-pub mod Piled
-pub mod Emitting
 pub mod Zeroing
+pub mod Reading
 -- the tables at exit
+pub mod RowTips
 pub mod Filled

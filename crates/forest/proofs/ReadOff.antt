@@ -1,27 +1,19 @@
 -- The tips of a row, read from the left, are the levels of its form: b_i is the number of left edges above tip i,
 -- and a_i its exponent. Assumes nothing.
-use mathlib.Core.Path.{_≡_, refl, sym, _∙_, subst, ap}
+use mathlib.Core.Path.{_≡_, refl, sym, _∙_, ap}
 use mathlib.Core.List.{List, [], _∷_}
-use Prim.Native.Nat.{ℕ, zero, suc, _+_, _-_, _≤_, _<_}
+use Prim.Native.Nat.{ℕ, zero, suc, _+_, _<_}
 use native.Mathlib.Omega.{arith}
 use lib.ListN.{length}
 use Rattle.group.specs.Letters.{Word}
-use Rattle.group.specs.Forms.{Side, bSide, aSide, Form, level, onSide, exponent, SameExponents}
+use Rattle.group.specs.Forms.{Side, bSide, aSide, Form, level, exponent, SameExponents}
 use Rattle.group.specs.Products.{formOf}
 use Rattle.group.proofs.LevelProducts.{reduce-level-same}
-use Rattle.forest.specs.inside.Forest.{Bush, tip, fork, firstBush, laterBushes, putBush, rowBushes, rowOfWord}
-use Rattle.forest.specs.inside.Forest.{tipEdges, tipExponent, bushesBehind}
+use Rattle.forest.specs.inside.Forest.{Bush, tip, fork, firstBush, putBush, rowBushes, rowOfWord}
+use Rattle.forest.specs.inside.Forest.{tipEdges, tipExponent, bushesBehind, forestBehind, bushesFrom, tipAt}
 use Rattle.forest.proofs.Levels.{bushLevels, forestLevels, put-levels, row-form}
 use Rattle.forest.proofs.Irreducible.{Apart, Irreducible, IrreducibleForest, put-irreducible}
 use Rattle.forest.proofs.Irreducible.{row-irreducible, bushes-irreducible}
-
--- The bushes behind the first tip, and behind the first i tips.
-abbrev forestBehind : List Bush → List Bush
-forestBehind ts = bushesBehind (firstBush ts) (laterBushes ts)
-
-abbrev pub bushesFrom : ℕ → List Bush → List Bush
-bushesFrom zero ts = ts
-bushesFrom (suc i) ts = forestBehind (bushesFrom i ts)
 
 -- No reducing step applies at the first tip of a bush under d left edges.
 abbrev Stable : ℕ → Bush → List Bush → Type 0
@@ -90,39 +82,19 @@ from-behind : (i : ℕ) (ts : List Bush) → bushesFrom i (forestBehind ts) ≡ 
 from-behind zero ts = refl
 from-behind (suc i) ts = ap forestBehind (from-behind i ts)
 
--- The exponents that the first tip of several bushes stands for.
-abbrev pub tipLevel : Side → List Bush → ℕ
-tipLevel s ts = onSide s (tipEdges (firstBush ts)) (tipExponent (firstBush ts))
-
+-- Tip i of several bushes has the exponents of index i of their form.
 pub forest-exponent : (n : ℕ) (s : Side) (i : ℕ) (ts : List Bush) → IrreducibleForest n ts
-    → exponent s (forestLevels ts) i ≡ tipLevel s (bushesFrom i ts)
+    → exponent s (forestLevels ts) i ≡ tipAt s ts i
 forest-exponent n s zero ts h = forest-level n ts h s 0
 forest-exponent n s (suc i) ts h =
     forest-level n ts h s (suc i)
     ∙ forest-exponent n s i (forestBehind ts) (forest-behind-irreducible n ts h)
-    ∙ ap (tipLevel s) (from-behind i ts)
+    ∙ ap (λ (us : List Bush). tipAt s us 0) (from-behind i ts)
 
 -- Tip i of a word's row has the exponents of index i of the word's form.
 pub row-exponent : (w : Word) (s : Side) (i : ℕ)
-    → exponent s (formOf w) i ≡ tipLevel s (bushesFrom i (rowBushes (rowOfWord w)))
+    → exponent s (formOf w) i ≡ tipAt s (rowBushes (rowOfWord w)) i
 row-exponent w s i =
     ap (λ (f : Form). exponent s f i) (sym (row-form w))
     ∙ forest-exponent (length w) s i (rowBushes (rowOfWord w))
     (bushes-irreducible (length w) (rowOfWord w) (row-irreducible w))
-
--- Behind the last bush nothing occurs.
-from-none : (k i j : ℕ) (ts : List Bush) → j ≡ k + i → bushesFrom i ts ≡ [] → bushesFrom j ts ≡ []
-from-none zero i j ts e h = let g : i ≡ j = omega arith in subst (λ (n : ℕ). bushesFrom n ts ≡ []) g h
-from-none (suc k) i zero ts e h = absurd (omega arith)
-from-none (suc k) i (suc j) ts e h = ap forestBehind (from-none k i j ts (omega arith) h)
-
-level-none : (s : Side) → tipLevel s [] ≡ 0
-level-none bSide = refl
-level-none aSide = refl
-
-pub levels-behind : (w : Word) (i : ℕ) → bushesFrom i (rowBushes (rowOfWord w)) ≡ [] → (s : Side) (j : ℕ) → i ≤ j
-    → exponent s (formOf w) j ≡ 0
-levels-behind w i e s j h =
-    row-exponent w s j
-    ∙ ap (tipLevel s) (from-none (j - i) i j (rowBushes (rowOfWord w)) (omega arith) e)
-    ∙ level-none s

@@ -1,8 +1,7 @@
-// The tips of a row, read off into two tables: the exponents of the word's reduced form.
+// The tips of the bushes on the stack, read off into two tables.
 ghost use Prim.Native.Nat.{_≤_, _<_};
 ghost use lib.ListN.{length};
-ghost use Rattle.forest.specs.inside.Moves.{Piled};
-ghost use Rattle.forest.specs.inside.Leaves.{Standing, TipRead, StemPassed, LongTables, ZerosPut, Tabled};
+ghost use Rattle.forest.specs.inside.Leaves.{Standing, TipRead, StemPassed, ZerosPut, TipsReady, TablesRead};
 use crate::cells::LAST_TIP;
 use crate::cells::pop;
 use crate::cells::push;
@@ -12,6 +11,12 @@ use crate::cells::wide;
 pub struct Tip {
     pub edges: u16,
     pub exponent: u16,
+    pub height: usize,
+}
+
+// How many levels were read, and the height of the stack with the bushes behind them.
+pub struct Levels {
+    pub read: usize,
     pub height: usize,
 }
 
@@ -40,7 +45,7 @@ fn below_stem(lefts: &[u16], rights: &[u16], bush: u16, height: usize) -> u16
 }
 
 // The first tip of a bush; the bushes behind it go onto the stack.
-fn descend(lefts: &[u16], rights: &[u16], stack: &mut [u16], bush: u16, low: usize) -> Tip
+pub fn descend(lefts: &[u16], rights: &[u16], stack: &mut [u16], bush: u16, low: usize) -> Tip
     requires { ⌜ Standing (now lefts) (now rights) (now stack) bush low ⌝ }
     ensures { λ r. ⌜ TipRead (now (lefts .entry)) (now (rights .entry)) (now (stack .entry)) bush low
         (now (stack .exit)) (r .edges) (r .exponent) (r .height) ⌝ }
@@ -73,30 +78,29 @@ fn zero_rest(table: &mut [u16], low: usize, high: usize)
     }
 }
 
-// The tips on the stack, from the left, are the levels of the form; where it is empty, only tips of exponent 0 are
-// left, and the indices behind do not occur. How many levels were read.
+// The tips of the bushes on the stack, from the left, up to `end` of them: the left edges above tip i and its exponent
+// are entry i of the tables. Where the stack is empty, only tips of exponent 0 are left.
 pub fn read_off(
-    word: &[u8],
-    low: usize,
     lefts: &[u16],
     rights: &[u16],
     stack: &mut [u16],
+    low: usize,
     b_table: &mut [u16],
     a_table: &mut [u16],
-) -> usize
-    requires { ⌜ Piled (now word) (now lefts) (now rights) (now stack) low ⌝ }
-    requires { ⌜ LongTables (now word) (now «b_table») (now «a_table») ⌝ }
-    ensures { λ r. ⌜ Tabled (now (word .entry)) (now («b_table» .entry)) (now («a_table» .entry))
-        (now («b_table» .exit)) (now («a_table» .exit)) r ⌝ }
+    end: usize,
+) -> Levels
+    requires { ⌜ TipsReady (now lefts) (now rights) (now stack) low (now «b_table») (now «a_table») end ⌝ }
+    ensures { λ r. ⌜ TablesRead (now (lefts .entry)) (now (rights .entry)) (now (stack .entry)) low
+        (now («b_table» .entry)) (now («a_table» .entry)) end (now (stack .exit)) (now («b_table» .exit))
+        (now («a_table» .exit)) (r .read) (r .height) ⌝ }
 {
-    let end = word.len() + 1;
     let mut height = low;
     let mut i = 0;
     while i < end {
         if height == 0 {
             zero_rest(b_table, i, end);
             zero_rest(a_table, i, end);
-            return i;
+            return Levels { read: i, height };
         }
         let p = pop(stack, height);
         let l = descend(lefts, rights, stack, p.bush, p.height);
@@ -105,5 +109,5 @@ pub fn read_off(
         height = l.height;
         i += 1;
     }
-    i
+    Levels { read: i, height }
 }

@@ -51,6 +51,7 @@ pub fn fill_tables(
         return Filling::Refused(r);
     }
     let height = row::run(word, lefts, rights, stack);
-    let read = leaves::read_off(word, height, lefts, rights, stack, b_table, a_table);
-    Filling::Filled(read)
+    let end = word.len() + 1;
+    let levels = leaves::read_off(lefts, rights, stack, height, b_table, a_table, end);
+    Filling::Filled(levels.read)
 }

@@ -2,7 +2,7 @@
 -- Assumes nothing.
 use borrow.Author.Needs.{needs}
 use Rattle.forest.proofs.Filled.{unfit-lefts, unfit-rights, unfit-stack}
-use Rattle.forest.proofs.Filled.{word-refused, scratch-fit, tables-long, tables-filled}
+use Rattle.forest.proofs.Filled.{word-refused, scratch-fit, tips-fit, tables-filled}
 use Rattle.forest.proofs.fill_tables.Statement.{statement}
 use Rattle.forest.proofs.fill_tables.Tie as tie
 
@@ -44,13 +44,16 @@ run-requires c κs =
     scratch-fit _ _ (at-if1 .if1 .left) (at-if2 .if2 .left) (at-if3 .if3 .left) (at-enum-told .enum-told .given .1)
     (at-judge .judge .ensures)
 
+add-end : tie.Need-add-end
+add-end c = search needs
+
 read-off-requires : tie.Need-read-off-requires
 read-off-requires c κs =
     let at-slice-known8 = c .before .before .before .before .before in
     let at-run = at-slice-known8 .before .before .before .before .before .before in
     let at-enum-told = at-run .before .before .before .before in
     let at-judge = at-enum-told .before .before in
-    (at-run .run .ensures, tables-long (at-enum-told .enum-told .given .1) (at-judge .judge .ensures))
+    tips-fit (at-enum-told .enum-told .given .1) (at-judge .judge .ensures) (at-run .run .ensures)
 
 same-length : tie.Need-same-length
 same-length c = search needs
@@ -78,7 +81,8 @@ returns-5 c =
     let at-if2 = at-if3 .before in
     let at-if1 = at-if2 .before in
     tables-filled (at-if1 .if1 .left) (at-if2 .if2 .left) (at-if3 .if3 .left) (at-judge .judge .result)
-    (at-enum-told .enum-told .given .1) (at-judge .judge .ensures) (at-read-off .read-off .ensures)
+    (at-enum-told .enum-told .given .1) (at-judge .judge .ensures) (at-run .run .ensures)
+    (at-read-off .read-off .ensures)
 
 pub fill-tables-spec : {M : Type 1} → statement M
 fill-tables-spec =
@@ -92,6 +96,7 @@ fill-tables-spec =
     returns-4
     enum-told
     run-requires
+    add-end
     read-off-requires
     same-length
     same-length-2

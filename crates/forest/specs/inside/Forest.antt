@@ -7,11 +7,13 @@
 --     putBush                               a bush in front of such a list
 --     moveRow, rowOfWord                    a letter on a row; the row of a word
 --     tipEdges, tipExponent, bushesBehind   the first tip of a bush, and the bushes behind it
+--     bushesFrom, tipAt                     the bushes behind the first i tips of several; what tip i stands for
 --     tips, forestTips                      how many tips there are
 -- Assumes nothing.
 use mathlib.Core.List.{List, [], _∷_}
 use Prim.Native.Nat.{ℕ, zero, suc, _+_}
 use Rattle.group.specs.Letters.{Letter, 'a, 'A, 'b, 'B, Word}
+use Rattle.group.specs.Forms.{Side, onSide}
 
 -- A bush whose tips carry exponents of the a side.
 pub data Bush : Type 0 where
@@ -87,6 +89,19 @@ tipExponent (fork x y) = tipExponent x
 abbrev pub bushesBehind : Bush → List Bush → List Bush
 bushesBehind (tip n) ts = ts
 bushesBehind (fork x y) ts = bushesBehind x (putBush y ts)
+
+-- The bushes behind the first tip of several.
+abbrev pub forestBehind : List Bush → List Bush
+forestBehind ts = bushesBehind (firstBush ts) (laterBushes ts)
+
+-- The bushes behind the first i tips.
+abbrev pub bushesFrom : ℕ → List Bush → List Bush
+bushesFrom zero ts = ts
+bushesFrom (suc i) ts = forestBehind (bushesFrom i ts)
+
+-- The exponents that tip i of several bushes stands for.
+abbrev pub tipAt : Side → List Bush → ℕ → ℕ
+tipAt s ts i = onSide s (tipEdges (firstBush (bushesFrom i ts))) (tipExponent (firstBush (bushesFrom i ts)))
 
 -- The number of tips of a bush.
 abbrev pub tips : Bush → ℕ

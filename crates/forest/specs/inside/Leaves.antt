@@ -1,27 +1,24 @@
--- What the functions of `leaves` promise: the tips of a stored row are written into the tables. Assumes nothing.
+-- What the functions of `leaves` promise: the tips of the stored bushes are written into the tables. Assumes nothing.
 use mathlib.Core.Path.{_≡_}
 use mathlib.Core.List.{List}
-use Prim.Native.Nat.{ℕ, _+_, _-_, _≤_}
+use Prim.Native.Nat.{ℕ, _+_, _-_, _≤_, _<_}
 use lib.ListN.{length}
 use Rattle.lists.specs.Tables.{filled}
-use Rattle.group.specs.Forms.{bSide, aSide, exponent, levels}
-use Rattle.group.specs.Products.{formOf}
-use Rattle.forest.specs.inside.Filling.{cells, room}
-use Rattle.forest.specs.inside.Forest.{Bush, tipEdges, tipExponent, bushesBehind}
+use Rattle.group.specs.Forms.{Side, bSide, aSide}
+use Rattle.forest.specs.inside.Filling.{cells}
+use Rattle.forest.specs.inside.Forest.{Bush, tipEdges, tipExponent, bushesBehind, bushesFrom, tipAt}
 use Rattle.forest.specs.inside.Forest.{tips, forestTips}
 use Rattle.forest.specs.inside.Cells.{Stands, StackStands}
-use Rattle.forest.specs.inside.Moves.{stepWord}
 
 -- A code stands for a bush and the stack for the bushes behind it, and the stack has room for all their tips.
 pub record Standing (lefts rights stack : List ℕ) (code height : ℕ) : Type 0 where
   pub lefts-length : length lefts ≡ cells
   pub rights-length : length rights ≡ cells
-  pub stack-length : length stack ≡ room
   pub bush : Bush
   pub behind : List Bush
   pub stands : Stands lefts rights cells bush code
   pub stack-stands : StackStands lefts rights cells behind stack height
-  pub few : tips bush + forestTips behind ≤ room
+  pub few : tips bush + forestTips behind ≤ length stack
 
 -- The first tip of the bush was read, and the stack holds the bushes behind it.
 abbrev pub TipRead : (lefts rights stack : List ℕ) (code height : ℕ) (stack′ : List ℕ) (edges exponent height′ : ℕ)
@@ -63,11 +60,6 @@ abbrev pub StemPassed : (lefts rights : List ℕ) (whole height code : ℕ) → 
 StemPassed lefts rights whole height code =
     (stack : List ℕ) → Walking lefts rights stack whole height stack code (whole - code) height
 
--- Tables with an entry for each index up to the number of letters.
-pub record LongTables (word b a : List ℕ) : Type 0 where
-  pub b-long : length word + 1 ≤ length b
-  pub a-long : length word + 1 ≤ length a
-
 -- Of a function that is 0 from `low` on: a table that was filled below `low` is filled below `high`.
 abbrev pub ZerosPut : (table : List ℕ) (low high : ℕ) (table′ : List ℕ) → Type 0
 ZerosPut table low high table′ =
@@ -77,9 +69,23 @@ ZerosPut table low high table′ =
     → table ≡ filled low f t
     → table′ ≡ filled high f t
 
--- Entry i of the tables, for each i up to the number of letters, is b_i and a_i of the form; the rest is unchanged. As
--- many levels as were read are all that the form has.
-pub record Tabled (word b a b′ a′ : List ℕ) (read : ℕ) : Type 0 where
-  pub b-table : b′ ≡ filled (length word + 1) (exponent bSide (formOf (stepWord word))) b
-  pub a-table : a′ ≡ filled (length word + 1) (exponent aSide (formOf (stepWord word))) a
-  pub levels-read : (levels (formOf (stepWord word)) ≤ read) × (read ≤ length word + 1)
+-- The stack stands for bushes and has room for all their tips; each table has `end` entries.
+pub record TipsReady (lefts rights stack : List ℕ) (low : ℕ) (b a : List ℕ) (end : ℕ) : Type 0 where
+  pub lefts-length : length lefts ≡ cells
+  pub rights-length : length rights ≡ cells
+  pub bushes : List Bush
+  pub stack-stands : StackStands lefts rights cells bushes stack low
+  pub few : forestTips bushes ≤ length stack
+  pub b-long : end ≤ length b
+  pub a-long : end ≤ length a
+
+-- Entry i of the tables, for each i below `end`, has what tip i stands for; the rest is unchanged. The stack holds the
+-- bushes behind these tips. The tips from `read` on stand for zeros.
+pub record TablesRead (lefts rights stack : List ℕ) (low : ℕ) (b a : List ℕ) (end : ℕ) (stack′ b′ a′ : List ℕ)
+    (read height : ℕ) : Type 0 where
+  pub within : read ≤ end
+  pub takes : (ts : List Bush) → StackStands lefts rights cells ts stack low
+      → (b′ ≡ filled end (tipAt bSide ts) b)
+      × (a′ ≡ filled end (tipAt aSide ts) a)
+      × StackStands lefts rights cells (bushesFrom end ts) stack′ height
+      × ((s : Side) (i : ℕ) → read ≤ i → i < end → tipAt s ts i ≡ 0)

@@ -4,7 +4,7 @@ use mathlib.Core.Path.{_≡_, ap}
 use mathlib.Core.List.{[]}
 use Prim.Native.Nat.{ℕ}
 use native.Mathlib.Omega.{arith}
-use lib.ListN.{getD}
+use lib.ListN.{getD, length}
 use Rattle.forest.specs.inside.Leaves.{Walking}
 use Rattle.forest.proofs.Descent.{Turn, standing-below, walk-turn, walk-more, walk-ends}
 use Rattle.forest.proofs.leaves.descend.Statement.{statement}
@@ -19,7 +19,8 @@ abbrev μ-loop : tie.MeasureT-loop
 
 -- What a turn may use, at its start.
 turn : (c : tie.In-loop Inv-loop μ-loop)
-    → Turn (c .before .before .before .before .before .before .args .lefts .now) (c .before .loop .code)
+    → Turn (length (c .before .before .before .before .before .before .args .stack .now))
+    (c .before .before .before .before .before .before .args .lefts .now) (c .before .loop .code)
     (c .before .loop .height)
 turn c =
     let at-loop = c .before in
@@ -45,7 +46,9 @@ shared-slice-read-push : tie.Need-shared-slice-read-push Inv-loop μ-loop
 shared-slice-read-push c = omega (arith, turn (c .before .before .before))
 
 push-requires : tie.Need-push-requires Inv-loop μ-loop
-push-requires c κs = omega (arith, turn (c .before .before .before))
+push-requires c κs =
+    let at-loop-test = c .before .before .before in
+    omega (arith, turn at-loop-test, at-loop-test .before .loop .inv .same)
 
 mul-code : tie.Need-mul-code Inv-loop μ-loop
 mul-code c = omega arith

@@ -1,97 +1,87 @@
--- `leaves::read_off` meets its contract: the loop of `Emitting`, one entry of each table in a turn.
+-- `leaves::read_off` meets its contract: the loop of `Reading`, one entry of each table in a turn.
 -- Assumes nothing.
 use mathlib.Core.Path.{_∙_}
-use Prim.Native.Nat.{_+_, _-_}
+use Prim.Native.Nat.{_-_}
 use native.Mathlib.Omega.{arith}
-use borrow.Author.Needs.{needs}
-use lib.ListN.{length}
-use Rattle.forest.proofs.Emitting.{Emitting, emit-starts, emit-height, emit-standing, emit-more}
-use Rattle.forest.proofs.Emitting.{emit-empty, emit-ends}
-use Rattle.forest.proofs.Zeroing.{levels-tabled, all-tabled}
+use Rattle.forest.proofs.Reading.{Reading, reading-starts, reading-height, reading-standing, reading-more}
+use Rattle.forest.proofs.Reading.{reading-empty, reading-ends}
 use Rattle.forest.proofs.leaves.read_off.Statement.{statement}
 use Rattle.forest.proofs.leaves.read_off.Tie as tie
 
 abbrev Inv-loop : tie.InvT-loop
-Inv-loop word low lefts rights stack₀ b₀ a₀ end height₀ i₀ stack b a height i =
-    Emitting word lefts rights b₀ a₀ stack b a height i
+Inv-loop lefts rights stack₀ low b₀ a₀ end height₀ i₀ stack b a height i =
+    Reading lefts rights stack₀ low b₀ a₀ end stack b a height i
 
 abbrev μ-loop : tie.MeasureT-loop
-μ-loop word low lefts rights stack₀ b₀ a₀ end height₀ i₀ stack b a height i = (length word + 1) - i
-
-add-end : tie.Need-add-end Inv-loop μ-loop
-add-end c = search needs
+μ-loop lefts rights stack₀ low b₀ a₀ end height₀ i₀ stack b a height i = end - i
 
 loop-holds : tie.Need-loop-holds Inv-loop μ-loop
-loop-holds c =
-    let at-start = c .before .before .before .before .before .before in
-    emit-starts (at-start .args .b-table .now) (at-start .args .a-table .now) (at-start .pre .0)
+loop-holds c = reading-starts (c .before .before .before .before .before .pre)
 
 zero-rest-requires : tie.Need-zero-rest-requires Inv-loop μ-loop
 zero-rest-requires c κs =
-    let at-loop = c .before .before .before in
-    let at-slice-known = at-loop .before .before .before in
-    let long = at-slice-known .before .before .before .before .pre .1 in
-    omega (arith, at-loop .loop .inv .b-length, long .b-long)
+    let inv = c .before .before .before .loop .inv in
+    omega (arith, inv .b-same, inv .asked .b-long)
 
 zero-rest-requires-2 : tie.Need-zero-rest-requires-2 Inv-loop μ-loop
 zero-rest-requires-2 c κs =
     let at-zero-rest = c .before .before .before in
-    let at-loop = at-zero-rest .before .before .before .before in
-    let at-slice-known = at-loop .before .before .before in
-    let long = at-slice-known .before .before .before .before .pre .1 in
-    omega (arith, at-loop .loop .inv .a-length, long .a-long)
+    let inv = at-zero-rest .before .before .before .before .loop .inv in
+    omega (arith, inv .a-same, inv .asked .a-long)
 
 same-length : tie.Need-same-length Inv-loop μ-loop
-same-length c = omega arith
+same-length c =
+    let at-zero-rest = c .before .before .before .before .before .before in
+    at-zero-rest .before .before .before .before .loop .inv .stack-same
 
 same-length-2 : tie.Need-same-length-2 Inv-loop μ-loop
 same-length-2 c =
     let at-zero-rest = c .before .before .before .before .before .before in
     let at-loop = at-zero-rest .before .before .before .before in
-    at-zero-rest .zero-rest .kept .0 ∙ at-loop .loop .inv .b-length
+    at-zero-rest .zero-rest .kept .0 ∙ at-loop .loop .inv .b-same
 
 same-length-3 : tie.Need-same-length-3 Inv-loop μ-loop
 same-length-3 c =
     let at-zero-rest = c .before .before .before .before .before .before in
     let at-loop = at-zero-rest .before .before .before .before in
-    c .before .before .zero-rest2 .kept .0 ∙ at-loop .loop .inv .a-length
+    c .before .before .zero-rest2 .kept .0 ∙ at-loop .loop .inv .a-same
 
 returns : tie.Need-returns Inv-loop μ-loop
 returns c =
     let at-zero-rest2 = c .before .before in
     let at-zero-rest = at-zero-rest2 .before .before .before .before in
     let test = at-zero-rest .before .before in
-    let at-loop = test .before .before in
-    let at-slice-known = at-loop .before .before .before in
-    let long = at-slice-known .before .before .before .before .pre .1 in
-    levels-tabled long (emit-empty (at-loop .loop .inv) (test .if1 .taken))
-    (at-zero-rest .zero-rest .ensures)
+    reading-empty (test .before .before .loop .inv) (test .if1 .taken) (at-zero-rest .zero-rest .ensures)
     (at-zero-rest2 .zero-rest2 .ensures)
 
 pop-requires : tie.Need-pop-requires Inv-loop μ-loop
-pop-requires c κs = emit-height (c .before .before .before .loop .inv)
+pop-requires c κs = reading-height (c .before .before .before .loop .inv)
 
 descend-requires : tie.Need-descend-requires Inv-loop μ-loop
 descend-requires c κs =
     let at-pop = c .before in
-    let at-loop = at-pop .before .before .before .before in
-    let at-slice-known = at-loop .before .before .before in
-    let sizes = at-slice-known .before .before .before .before .pre .0 .scratch in
+    let test = at-pop .before .before in
     let p = at-pop .pop in
-    emit-standing (at-loop .loop .inv) (p .result .bush) (p .result .height) (sizes .lefts-length)
-    (sizes .rights-length) (p .ensures)
+    reading-standing (test .before .before .loop .inv) (p .result .bush) (p .result .height) (test .if1 .left)
+    (p .ensures)
 
 mul-b-table : tie.Need-mul-b-table Inv-loop μ-loop
 mul-b-table c = omega arith
 
 slice-write-b-table : tie.Need-slice-write-b-table Inv-loop μ-loop
-slice-write-b-table c = omega arith
+slice-write-b-table c =
+    let at-pop = c .before .before .before .before in
+    let inv = at-pop .before .before .before .before .loop .inv in
+    omega (arith, inv .b-same, inv .asked .b-long)
 
 mul-a-table : tie.Need-mul-a-table Inv-loop μ-loop
 mul-a-table c = omega arith
 
 slice-write-a-table : tie.Need-slice-write-a-table Inv-loop μ-loop
-slice-write-a-table c = omega arith
+slice-write-a-table c =
+    let at-pop = c .before .before .before .before in
+    let inv = at-pop .before .before .before .before .loop .inv in
+    omega (arith, inv .a-same, inv .asked .a-long)
 
 add-i : tie.Need-add-i Inv-loop μ-loop
 add-i c = omega arith
@@ -104,30 +94,23 @@ loop-again c =
     let at-descend = c .before .before in
     let at-pop = at-descend .before .before in
     let at-loop = at-pop .before .before .before .before in
-    let at-slice-known = at-loop .before .before .before in
-    let asked = at-slice-known .before .before .before .before .pre in
-    let inv = at-loop .loop .inv in
     let p = at-pop .pop in
     let d = at-descend .descend in
     let tip = d .result in
-    emit-more inv (p .result .bush) (p .result .height) (d .last .1 .1 .0) (tip .edges) (tip .exponent)
-    (tip .height) (omega arith) (asked .1) (d .kept .1 .1 .0) (p .ensures) (d .ensures)
+    reading-more (at-loop .loop .inv) (p .result .bush) (p .result .height) (d .last .1 .1 .0) (tip .edges)
+    (tip .exponent) (tip .height) (omega arith) (d .kept .1 .1 .0) (p .ensures) (d .ensures)
 
 same-length-4 : tie.Need-same-length-4 Inv-loop μ-loop
-same-length-4 c = omega arith
+same-length-4 c = c .before .loop .inv .stack-same
 
 same-length-5 : tie.Need-same-length-5 Inv-loop μ-loop
-same-length-5 c = c .before .loop .inv .b-length
+same-length-5 c = c .before .loop .inv .b-same
 
 same-length-6 : tie.Need-same-length-6 Inv-loop μ-loop
-same-length-6 c = c .before .loop .inv .a-length
+same-length-6 c = c .before .loop .inv .a-same
 
 returns-2 : tie.Need-returns-2 Inv-loop μ-loop
-returns-2 c =
-    let at-loop = c .before in
-    let at-slice-known = at-loop .before .before .before in
-    let long = at-slice-known .before .before .before .before .pre .1 in
-    all-tabled long (emit-ends (at-loop .loop .inv) (omega arith)) (omega arith)
+returns-2 c = reading-ends (c .before .loop .inv) (omega arith)
 
 pub read-off-spec : {M : Type 1} → statement M
 read-off-spec =
@@ -135,7 +118,6 @@ read-off-spec =
     (tie.spec
     Inv-loop
     μ-loop
-    add-end
     loop-holds
     zero-rest-requires
     zero-rest-requires-2
