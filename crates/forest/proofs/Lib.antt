@@ -18,6 +18,7 @@ pub mod Piled
 pub mod Seeking
 pub mod PowerTurns
 pub mod RunPowers
+pub mod HighTips
 -- the tips read off
 pub mod Descent
 pub mod Zeroing
