@@ -153,10 +153,10 @@ module _ (m : ℕ) (ps : List SignedPower) (w : IndicesWithin m ps) (n : ℕ) wh
       go r (no c) = omega arith
       go r (yes c) =
           let zero-here : tipAt (r .side) (t ∷ ts) (r .at) ≡ 0 =
-              ap (λ (us : List Bush). tipAt (r .side) us (r .at)) (sym e)
-              ∙ tip-from (r .side) (r .at) n (r .at + n) row (omega arith)
-              ∙ sym (cursor-exponent m ps w (r .side) (r .at + n))
-              ∙ exponent-behind (r .side) form (r .at + n) (omega arith) in
+          ap (λ (us : List Bush). tipAt (r .side) us (r .at)) (sym e)
+          ∙ tip-from (r .side) (r .at) n (r .at + n) row (omega arith)
+          ∙ sym (cursor-exponent m ps w (r .side) (r .at + n))
+          ∙ exponent-behind (r .side) form (r .at + n) (omega arith) in
           absurd (omega (arith, r .above, zero-here))
 
   -- The stack holds the bushes behind the first n tips of the row: it is empty where no index from n on occurs.

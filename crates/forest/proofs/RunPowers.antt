@@ -198,20 +198,19 @@ module _ {ks es ss lefts rights before stack : List ℕ} {used front height i : 
       seek-bounded limit (exponentSizes (from ks es ss i)) k (cursorOf (from ks es ss i)) powers-index (bounded r)
 
   module _ (before′ stack′ : List ℕ) (low : ℕ) (eb : length before′ ≡ length before)
-      (et : length stack′ ≡ length stack) (q : Sought before stack front height k before′ stack′ low)
-      (e : ℕ) (he : e ≡ getD es j 0) where
+      (et : length stack′ ≡ length stack) (q : Sought before stack front height k before′ stack′ low) where
     here : Stood lefts rights used before′ stack′ k low (seek k (cursorOf (from ks es ss i)))
     here = q lefts rights used (cursorOf (from ks es ss i)) (r .stood)
 
-    pub powers-room : PowerRoom (sideOf (getD ss j 0)) lefts rights stack′ used low e
+    pub powers-room : PowerRoom (sideOf (getD ss j 0)) lefts rights stack′ used low (getD es j 0)
     powers-room =
-        power-room lefts rights used before′ stack′ k low (exponentSizes (from ks es ss i)) (sideOf (getD ss j 0)) e
-        (seek k (cursorOf (from ks es ss i))) (r .ready .lefts-length) (r .ready .rights-length)
+        power-room lefts rights used before′ stack′ k low (exponentSizes (from ks es ss i)) (sideOf (getD ss j 0))
+        (getD es j 0) (seek k (cursorOf (from ks es ss i))) (r .ready .lefts-length) (r .ready .rights-length)
         (et ∙ r .ready .stack-length) (r .used-low) (r .used-high) (omega (arith, next .sizes)) sought here
 
     pub powers-more : {lefts′ rights′ stack″ : List ℕ} {used′ height′ : ℕ} → length lefts′ ≡ length lefts
         → length rights′ ≡ length rights → length stack″ ≡ length stack′
-        → PowerPut (sideOf (getD ss j 0)) lefts rights stack′ used low e lefts′ rights′ stack″ used′ height′
+        → PowerPut (sideOf (getD ss j 0)) lefts rights stack′ used low (getD es j 0) lefts′ rights′ stack″ used′ height′
         → RunningPowers ks es ss lefts′ rights′ before′ stack″ used′ k height′ j
     powers-more {lefts′} {rights′} {stack″} {used′} {height′} el er es′ p = record {
       ready = record {
@@ -231,12 +230,7 @@ module _ {ks es ss lefts rights before stack : List ℕ} {used front height i : 
           (omega (arith, r .used-high, p .high));
       stood =
           subst (λ (ps : List SignedPower). Stood lefts′ rights′ used′ before′ stack″ k height′ (cursorOf ps)) (sym read)
-          (subst
-          (λ (x : ℕ).
-          Stood lefts′ rights′ used′ before′ stack″ k height′
-          (powerHere (sideOf (getD ss j 0)) x (seek k (cursorOf (from ks es ss i)))))
-          he
           (power-stood lefts rights used before′ stack′ k low (exponentSizes (from ks es ss i))
-          (sideOf (getD ss j 0)) e (seek k (cursorOf (from ks es ss i))) lefts′ rights′ stack″ used′ height′
-          (omega (arith, next .sizes)) sought p here));
+          (sideOf (getD ss j 0)) (getD es j 0) (seek k (cursorOf (from ks es ss i))) lefts′ rights′ stack″ used′ height′
+          (omega (arith, next .sizes)) sought p here);
     }

@@ -68,7 +68,7 @@ fn join_power(
     stack: &mut [u16],
     used: usize,
     height: usize,
-    e: usize,
+    e: u16,
 ) -> Behind
     requires { ⌜ PowerRoom bSide (now lefts) (now rights) (now stack) used height e ⌝ }
     ensures { λ r. ⌜ PowerPut bSide (now (lefts .entry)) (now (rights .entry)) (now (stack .entry)) used height e
@@ -101,7 +101,7 @@ fn part_power(
     stack: &mut [u16],
     used: usize,
     height: usize,
-    e: usize,
+    e: u16,
 ) -> Behind
     requires { ⌜ PowerRoom aSide (now lefts) (now rights) (now stack) used height e ⌝ }
     ensures { λ r. ⌜ PowerPut aSide (now (lefts .entry)) (now (rights .entry)) (now (stack .entry)) used height e
@@ -129,7 +129,7 @@ fn power(
     stack: &mut [u16],
     used: usize,
     height: usize,
-    e: usize,
+    e: u16,
 ) -> Behind
     requires { ⌜ PowerRoom (sideOf side) (now lefts) (now rights) (now stack) used height e ⌝ }
     ensures { λ r. ⌜ PowerPut (sideOf side) (now (lefts .entry)) (now (rights .entry)) (now (stack .entry)) used height
@@ -165,15 +165,7 @@ pub fn pile_powers(
         i -= 1;
         let k = wide(indices[i]);
         let low = seek(before, stack, front, height, k);
-        let b = power(
-            sides[i],
-            lefts,
-            rights,
-            stack,
-            used,
-            low,
-            wide(exponents[i]),
-        );
+        let b = power(sides[i], lefts, rights, stack, used, low, exponents[i]);
         used = b.used;
         front = k;
         height = b.height;

@@ -56,24 +56,20 @@ shared-slice-read-power c =
     let inv = test .before .loop .inv in
     omega (arith, test .loop-test .taken, inv .here, inv .ready .sides-length)
 
-mul-wide-2 : tie.Need-mul-wide-2 Inv-loop μ-loop
-mul-wide-2 c = omega arith
+mul-power : tie.Need-mul-power Inv-loop μ-loop
+mul-power c = omega arith
 
-shared-slice-read-wide-2 : tie.Need-shared-slice-read-wide-2 Inv-loop μ-loop
-shared-slice-read-wide-2 c =
+shared-slice-read-power-2 : tie.Need-shared-slice-read-power-2 Inv-loop μ-loop
+shared-slice-read-power-2 c =
     let at-args = c .before .before .before in
     let at-seek = at-args .before .before .before .before .before .before in
     let test = at-seek .before .before .before .before .before in
     let inv = test .before .loop .inv in
     omega (arith, test .loop-test .taken, inv .here, inv .ready .exponents-length)
 
-wide-requires-2 : tie.Need-wide-requires-2 Inv-loop μ-loop
-wide-requires-2 c κs = tt
-
 power-requires : tie.Need-power-requires Inv-loop μ-loop
 power-requires c κs =
-    let e = c .wide2 in
-    let at-args = c .before .before .before .before in
+    let at-args = c .before .before .before in
     let at-seek = at-args .before .before .before .before .before .before in
     let sought = at-seek .seek in
     let k = at-seek .before .before .before .wide in
@@ -81,7 +77,6 @@ power-requires c κs =
     let turn = test .before .loop in
     powers-room (turn .inv) (turn .i - 1) (k .result) (omega (arith, test .loop-test .taken)) (k .ensures)
     (sought .last .0) (sought .last .1 .0) (sought .result) (sought .kept .0) (sought .kept .1 .0) (sought .ensures)
-    (e .result) (e .ensures)
 
 loop-less : tie.Need-loop-less Inv-loop μ-loop
 loop-less c = omega arith
@@ -90,8 +85,7 @@ loop-again : tie.Need-loop-again Inv-loop μ-loop
 loop-again c =
     let at-power = c .before .before .before .before .before .before in
     let put = at-power .power in
-    let e = at-power .before .wide2 in
-    let at-args = at-power .before .before .before .before .before in
+    let at-args = at-power .before .before .before .before in
     let at-seek = at-args .before .before .before .before .before .before in
     let sought = at-seek .seek in
     let k = at-seek .before .before .before .wide in
@@ -99,8 +93,7 @@ loop-again c =
     let turn = test .before .loop in
     powers-more (turn .inv) (turn .i - 1) (k .result) (omega (arith, test .loop-test .taken)) (k .ensures)
     (sought .last .0) (sought .last .1 .0) (sought .result) (sought .kept .0) (sought .kept .1 .0) (sought .ensures)
-    (e .result) (e .ensures) (put .kept .1 .0) (put .kept .1 .1 .0) (put .kept .1 .1 .1 .0)
-    (put .ensures)
+    (put .kept .1 .0) (put .kept .1 .1 .0) (put .kept .1 .1 .1 .0) (put .ensures)
 
 go-back-requires : tie.Need-go-back-requires Inv-loop μ-loop
 go-back-requires c κs = (powers-seek (c .before .before .before .loop .inv) 0 (omega arith), omega arith)
@@ -152,9 +145,8 @@ pile-powers-spec =
     wide-requires
     seek-requires
     shared-slice-read-power
-    mul-wide-2
-    shared-slice-read-wide-2
-    wide-requires-2
+    mul-power
+    shared-slice-read-power-2
     power-requires
     loop-less
     loop-again
