@@ -6,7 +6,7 @@ use mathlib.Core.List.{List, [], _∷_}
 use Prim.Native.Nat.{ℕ, zero, suc, _+_, _-_, _≤_, _<_}
 use native.Mathlib.Omega.{arith}
 use native.Mathlib.Decide.{decLe}
-use Rattle.group.specs.Forms.{Side, bSide, aSide, Form, exponent, levels}
+use Rattle.group.specs.Forms.{Side, bSide, aSide, Form, levels}
 use Rattle.group.specs.Products.{formOf}
 use Rattle.group.specs.Powers.{SignedPower, signedPower, productLetters}
 use Rattle.group.proofs.Reduced.{form-trimmed}

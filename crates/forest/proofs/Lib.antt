@@ -17,6 +17,7 @@ pub mod Piled
 -- powers on the stored row, and the loop over them
 pub mod Seeking
 pub mod PowerTurns
+pub mod PowersFrom
 pub mod RunPowers
 pub mod HighTips
 -- the tips read off

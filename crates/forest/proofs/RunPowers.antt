@@ -1,17 +1,17 @@
 -- The loop over the powers: both stacks stand for the row of those read so far. Assumes nothing.
 use mathlib.Core.Path.{_≡_, refl, sym, _∙_, ap, subst}
-use mathlib.Core.List.{List, [], _∷_}
-use Prim.Native.Nat.{ℕ, zero, suc, _+_, _-_, _≤_, _<_}
+use mathlib.Core.List.{List, _∷_}
+use Prim.Native.Nat.{ℕ, zero, suc, _+_, _≤_, _<_}
 use native.Mathlib.Omega.{arith}
 use lib.ListN.{getD, length, drop}
-use lib.Seq.{drop-cons, drop-length}
+use lib.Seq.{drop-length}
 use Rattle.group.specs.Forms.{Side, bSide, aSide}
 use Rattle.group.specs.Powers.{SignedPower, signedPower, exponentSizes, sideOf, powersIn}
 use Rattle.group.specs.Limits.{limit}
 use Rattle.forest.specs.inside.Filling.{cells}
-use Rattle.forest.specs.inside.Forest.{Bush, leftPart, firstBush, forestTips}
+use Rattle.forest.specs.inside.Forest.{Bush, leftPart, firstBush}
 use Rattle.forest.specs.inside.Cells.{StackStands}
-use Rattle.forest.specs.inside.Cursor.{Cursor, cursor, seek, powerHere, cursorBushes, cursorOf, IndicesWithin}
+use Rattle.forest.specs.inside.Cursor.{Cursor, cursor, seek, powerHere, cursorBushes, cursorOf}
 use Rattle.forest.specs.inside.Seeking.{frontRoom, rowRoom, Stood, Seekable, Sought, Raises, PowerRoom, PowerPut}
 use Rattle.forest.specs.inside.Seeking.{PowersReady, PowersPiled}
 use Rattle.forest.proofs.Irreducible.{Irreducible, left-irreducible, first-irreducible}
@@ -21,46 +21,7 @@ use Rattle.forest.proofs.Moving.{stack-keeps}
 use Rattle.forest.proofs.Cursor.{seek-first}
 use Rattle.forest.proofs.CursorBounds.{BoundedCursor, seek-bounded, cursor-bounded, cursor-tips}
 use Rattle.forest.proofs.Seeking.{stood-place}
-
--- The powers from i on.
-abbrev from : (ks es ss : List ℕ) → ℕ → List SignedPower
-from ks es ss i = powersIn (drop i ks) (drop i es) (drop i ss)
-
-from-more : (ks es ss : List ℕ) (j : ℕ) → j < length ks → length es ≡ length ks → length ss ≡ length ks
-    → from ks es ss j ≡ signedPower (sideOf (getD ss j 0)) (getD ks j 0) (getD es j 0) ∷ from ks es ss (suc j)
-from-more ks es ss j l he hs =
-    ap (λ (xs : List ℕ). powersIn xs (drop j es) (drop j ss)) (drop-cons ks j 0 l)
-    ∙ ap (λ (xs : List ℕ). powersIn (getD ks j 0 ∷ drop (suc j) ks) xs (drop j ss)) (drop-cons es j 0 (omega arith))
-    ∙ ap (λ (xs : List ℕ). powersIn (getD ks j 0 ∷ drop (suc j) ks) (getD es j 0 ∷ drop (suc j) es) xs)
-    (drop-cons ss j 0 (omega arith))
-
--- What holds of all powers holds of those from i on.
-none-es : (xs ss : List ℕ) → powersIn xs [] ss ≡ []
-none-es [] ss = refl
-none-es (k ∷ xs) ss = refl
-
-none-ss : (xs ys : List ℕ) → powersIn xs ys [] ≡ []
-none-ss [] ys = refl
-none-ss (k ∷ xs) [] = refl
-none-ss (k ∷ xs) (e ∷ ys) = refl
-
--- Indices within m, and sizes that sum to n at most.
-record Few (m n : ℕ) (ps : List SignedPower) : Type 0 where
-  indices : IndicesWithin m ps
-  sizes : exponentSizes ps ≤ n
-
-few-none : (m n : ℕ) (ps : List SignedPower) → ps ≡ [] → Few m n ps
-few-none m n ps e = subst (Few m n) (sym e) (record { indices = tt; sizes = omega arith })
-
-few-from : (m n : ℕ) (ks es ss : List ℕ) (i : ℕ) → Few m n (powersIn ks es ss) → Few m n (from ks es ss i)
-few-from m n ks es ss zero h = h
-few-from m n [] es ss (suc i) h = h
-few-from m n (k ∷ ks) [] ss (suc i) h =
-    few-none m n (from (k ∷ ks) [] ss (suc i)) (none-es (drop i ks) (drop (suc i) ss))
-few-from m n (k ∷ ks) (e ∷ es) [] (suc i) h =
-    few-none m n (from (k ∷ ks) (e ∷ es) [] (suc i)) (none-ss (drop i ks) (drop i es))
-few-from m n (k ∷ ks) (e ∷ es) (s ∷ ss) (suc i) h =
-    few-from m n ks es ss i (record { indices = h .indices .1; sizes = omega (arith, h .sizes) })
+use Rattle.forest.proofs.PowersFrom.{from, from-more, Few, few-from, cursorFrom, sizesFrom}
 
 -- A bush behind n units can be parted e times.
 raises-small : (s : Side) (n e : ℕ) (t : Bush) → e + n ≤ limit → Irreducible n t → Raises s e t
@@ -76,8 +37,8 @@ pub record RunningPowers (ks es ss lefts rights before stack : List ℕ) (used f
   pub ready : PowersReady ks es ss lefts rights before stack
   pub here : i ≤ length ks
   pub used-low : limit < used
-  pub used-high : used ≤ limit + 1 + exponentSizes (from ks es ss i)
-  pub stood : Stood lefts rights used before stack front height (cursorOf (from ks es ss i))
+  pub used-high : used ≤ limit + 1 + sizesFrom ks es ss i
+  pub stood : Stood lefts rights used before stack front height (cursorFrom ks es ss i)
 
 pub powers-start : {ks es ss lefts rights before stack : List ℕ} → PowersReady ks es ss lefts rights before stack
     → RunningPowers ks es ss lefts rights before stack (limit + 1) 0 0 (length ks)
@@ -149,25 +110,25 @@ module _ {ks es ss lefts rights before stack : List ℕ} {used front height i : 
   few : Few limit limit (from ks es ss i)
   few = few-from limit limit ks es ss i (record { indices = r .ready .indices-within; sizes = r .ready .sizes })
 
-  bounded : BoundedCursor limit (exponentSizes (from ks es ss i)) (cursorOf (from ks es ss i))
+  bounded : BoundedCursor limit (sizesFrom ks es ss i) (cursorFrom ks es ss i)
   bounded = cursor-bounded limit (from ks es ss i) (few .indices)
 
   pub powers-seek : (k : ℕ) → k ≤ limit → Seekable before stack front height k
   powers-seek k h =
-      seekable lefts rights used before stack front height (exponentSizes (from ks es ss i)) k
-      (cursorOf (from ks es ss i)) (r .ready .before-length) (r .ready .stack-length) h (few .sizes) bounded (r .stood)
+      seekable lefts rights used before stack front height (sizesFrom ks es ss i) k
+      (cursorFrom ks es ss i) (r .ready .before-length) (r .ready .stack-length) h (few .sizes) bounded (r .stood)
 
   -- All bushes stand on the stack behind the last move.
   pub powers-end : i ≡ 0 → {stack′ : List ℕ} {height′ : ℕ} → Sought before stack front height 0 before stack′ height′
       → PowersPiled ks es ss lefts rights stack′ height′
   powers-end d {stack′} {height′} q = record {
     stack-stands =
-        subst (λ (j : ℕ). StackStands lefts rights cells (cursorBushes (cursorOf (from ks es ss j))) stack′ height′)
+        subst (λ (j : ℕ). StackStands lefts rights cells (cursorBushes (cursorFrom ks es ss j)) stack′ height′)
         d
-        (stack-more lefts rights used cells (cursorBushes (cursorOf (from ks es ss i))) stack′ height′
+        (stack-more lefts rights used cells (cursorBushes (cursorFrom ks es ss i)) stack′ height′
         (omega (arith, r .used-high, few .sizes))
-        (subst (Stood lefts rights used before stack′ 0 height′) (seek-first (cursorOf (from ks es ss i)))
-        (q lefts rights used (cursorOf (from ks es ss i)) (r .stood))
+        (subst (Stood lefts rights used before stack′ 0 height′) (seek-first (cursorFrom ks es ss i))
+        (q lefts rights used (cursorFrom ks es ss i) (r .stood))
         .1));
     few =
         omega
@@ -193,19 +154,19 @@ module _ {ks es ss lefts rights before stack : List ℕ} {used front height i : 
   pub powers-index : k ≤ limit
   powers-index = next .indices .0
 
-  sought : BoundedCursor limit (exponentSizes (from ks es ss i)) (seek k (cursorOf (from ks es ss i)))
+  sought : BoundedCursor limit (sizesFrom ks es ss i) (seek k (cursorFrom ks es ss i))
   sought =
-      seek-bounded limit (exponentSizes (from ks es ss i)) k (cursorOf (from ks es ss i)) powers-index (bounded r)
+      seek-bounded limit (sizesFrom ks es ss i) k (cursorFrom ks es ss i) powers-index (bounded r)
 
   module _ (before′ stack′ : List ℕ) (low : ℕ) (eb : length before′ ≡ length before)
       (et : length stack′ ≡ length stack) (q : Sought before stack front height k before′ stack′ low) where
-    here : Stood lefts rights used before′ stack′ k low (seek k (cursorOf (from ks es ss i)))
-    here = q lefts rights used (cursorOf (from ks es ss i)) (r .stood)
+    here : Stood lefts rights used before′ stack′ k low (seek k (cursorFrom ks es ss i))
+    here = q lefts rights used (cursorFrom ks es ss i) (r .stood)
 
     pub powers-room : PowerRoom (sideOf (getD ss j 0)) lefts rights stack′ used low (getD es j 0)
     powers-room =
-        power-room lefts rights used before′ stack′ k low (exponentSizes (from ks es ss i)) (sideOf (getD ss j 0))
-        (getD es j 0) (seek k (cursorOf (from ks es ss i))) (r .ready .lefts-length) (r .ready .rights-length)
+        power-room lefts rights used before′ stack′ k low (sizesFrom ks es ss i) (sideOf (getD ss j 0))
+        (getD es j 0) (seek k (cursorFrom ks es ss i)) (r .ready .lefts-length) (r .ready .rights-length)
         (et ∙ r .ready .stack-length) (r .used-low) (r .used-high) (omega (arith, next .sizes)) sought here
 
     pub powers-more : {lefts′ rights′ stack″ : List ℕ} {used′ height′ : ℕ} → length lefts′ ≡ length lefts
@@ -229,8 +190,9 @@ module _ {ks es ss lefts rights before stack : List ℕ} {used front height i : 
           subst (λ (ps : List SignedPower). used′ ≤ limit + 1 + exponentSizes ps) (sym read)
           (omega (arith, r .used-high, p .high));
       stood =
-          subst (λ (ps : List SignedPower). Stood lefts′ rights′ used′ before′ stack″ k height′ (cursorOf ps)) (sym read)
-          (power-stood lefts rights used before′ stack′ k low (exponentSizes (from ks es ss i))
-          (sideOf (getD ss j 0)) (getD es j 0) (seek k (cursorOf (from ks es ss i))) lefts′ rights′ stack″ used′ height′
+          subst (λ (ps : List SignedPower). Stood lefts′ rights′ used′ before′ stack″ k height′ (cursorOf ps))
+          (sym read)
+          (power-stood lefts rights used before′ stack′ k low (sizesFrom ks es ss i)
+          (sideOf (getD ss j 0)) (getD es j 0) (seek k (cursorFrom ks es ss i)) lefts′ rights′ stack″ used′ height′
           (omega (arith, next .sizes)) sought p here);
     }

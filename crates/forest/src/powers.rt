@@ -1,9 +1,9 @@
 // A row of bushes with a cursor, for powers of any generator. The bushes in front of the cursor stand on `before`, the
 // nearest on top, so that its height is the cursor's place; the bushes from the cursor on stand on `stack`.
 ghost use Prim.Native.Nat.{_≤_};
-ghost use Rattle.group.specs.Forms.{bSide, aSide};
 ghost use Rattle.group.specs.Powers.{sideOf};
-ghost use Rattle.forest.specs.inside.Seeking.{Seekable, Sought, PowerRoom, PowerPut, PowersReady, PowersPiled};
+ghost use Rattle.forest.specs.inside.Seeking.{Seekable, Sought, TurnReady, Turned, PowerRoom, PowerPut};
+ghost use Rattle.forest.specs.inside.Seeking.{PowersReady, PowersPiled};
 use crate::cells::join;
 use crate::cells::part;
 use crate::cells::pop;
@@ -55,70 +55,43 @@ fn seek(before: &mut [u16], stack: &mut [u16], front: usize, height: usize, k: u
     go_back(before, stack, front, height, k)
 }
 
+// The bush at the cursor, taken from the stack while a power turns it, the height of `stack`, which has the bushes
+// behind it, and the next cell.
+pub struct Hand {
+    pub used: usize,
+    pub height: usize,
+    pub bush: u16,
+}
+
+// One turn, k the cursor's place. Where the side is 0, x_k: a fork over the bush, with the next bush of the row as its
+// right part. Else x_k⁻¹: the bush parted, and its left part taken.
+fn turn(side: u8, lefts: &mut [u16], rights: &mut [u16], stack: &mut [u16], hand: Hand) -> Hand
+    requires { ⌜ TurnReady (now lefts) (now rights) (now stack) hand ⌝ }
+    ensures { λ r. ⌜ Turned (sideOf side) (now (lefts .entry)) (now (rights .entry)) (now (stack .entry)) hand
+        (now (lefts .exit)) (now (rights .exit)) (now (stack .exit)) r ⌝ }
+{
+    if side == 0 {
+        let p = pop(stack, hand.height);
+        let j = join(lefts, rights, hand.used, hand.bush, p.bush);
+        return Hand {
+            used: j.used,
+            height: p.height,
+            bush: j.bush,
+        };
+    }
+    let p = part(lefts, rights, hand.bush);
+    let height = push(stack, hand.height, p.right);
+    Hand {
+        used: hand.used,
+        height,
+        bush: p.left,
+    }
+}
+
 // Behind a power: the next cell, and the height of `stack`.
 pub struct Behind {
     pub used: usize,
     pub height: usize,
-}
-
-// x_k^e, k the cursor's place: e forks over the bush there, each with the next bush of the row as its right part.
-fn join_power(
-    lefts: &mut [u16],
-    rights: &mut [u16],
-    stack: &mut [u16],
-    used: usize,
-    height: usize,
-    e: u16,
-) -> Behind
-    requires { ⌜ PowerRoom bSide (now lefts) (now rights) (now stack) used height e ⌝ }
-    ensures { λ r. ⌜ PowerPut bSide (now (lefts .entry)) (now (rights .entry)) (now (stack .entry)) used height e
-        (now (lefts .exit)) (now (rights .exit)) (now (stack .exit)) (r .used) (r .height) ⌝ }
-{
-    let p = pop(stack, height);
-    let mut t = p.bush;
-    let mut h = p.height;
-    let mut u = used;
-    let mut left = e;
-    while 0 < left {
-        let q = pop(stack, h);
-        let j = join(lefts, rights, u, t, q.bush);
-        t = j.bush;
-        u = j.used;
-        h = q.height;
-        left -= 1;
-    }
-    let top = push(stack, h, t);
-    Behind {
-        used: u,
-        height: top,
-    }
-}
-
-// x_k^−e, k the cursor's place: the bush there parted e times, each time its left part.
-fn part_power(
-    lefts: &[u16],
-    rights: &[u16],
-    stack: &mut [u16],
-    used: usize,
-    height: usize,
-    e: u16,
-) -> Behind
-    requires { ⌜ PowerRoom aSide (now lefts) (now rights) (now stack) used height e ⌝ }
-    ensures { λ r. ⌜ PowerPut aSide (now (lefts .entry)) (now (rights .entry)) (now (stack .entry)) used height e
-        (now (lefts .entry)) (now (rights .entry)) (now (stack .exit)) (r .used) (r .height) ⌝ }
-{
-    let p = pop(stack, height);
-    let mut t = p.bush;
-    let mut h = p.height;
-    let mut left = e;
-    while 0 < left {
-        let q = part(lefts, rights, t);
-        h = push(stack, h, q.right);
-        t = q.left;
-        left -= 1;
-    }
-    let top = push(stack, h, t);
-    Behind { used, height: top }
 }
 
 // x_k^e where the side is 0, else x_k^−e; k is the cursor's place.
@@ -135,10 +108,22 @@ fn power(
     ensures { λ r. ⌜ PowerPut (sideOf side) (now (lefts .entry)) (now (rights .entry)) (now (stack .entry)) used height
         e (now (lefts .exit)) (now (rights .exit)) (now (stack .exit)) (r .used) (r .height) ⌝ }
 {
-    if side == 0 {
-        return join_power(lefts, rights, stack, used, height, e);
+    let p = pop(stack, height);
+    let mut hand = Hand {
+        used,
+        height: p.height,
+        bush: p.bush,
+    };
+    let mut left = e;
+    while 0 < left {
+        hand = turn(side, lefts, rights, stack, hand);
+        left -= 1;
     }
-    part_power(lefts, rights, stack, used, height, e)
+    let top = push(stack, hand.height, hand.bush);
+    Behind {
+        used: hand.used,
+        height: top,
+    }
 }
 
 // The row of the powers that three slices of one length hold, from the last to the first; all its bushes go onto the

@@ -7,10 +7,12 @@ use lib.ListN.{length}
 use Rattle.group.specs.Forms.{Side, bSide, aSide}
 use Rattle.group.specs.Powers.{exponentSizes, powersIn}
 use Rattle.group.specs.Limits.{limit}
+use Rattle.forest.specs.declared.powers.Hand.{Hand}
 use Rattle.forest.specs.inside.Filling.{cells}
 use Rattle.forest.specs.inside.Forest.{Bush, leftPart, firstBush, forestTips}
 use Rattle.forest.specs.inside.Cells.{Stands, StackStands, Raisable}
-use Rattle.forest.specs.inside.Cursor.{Cursor, cursor, seek, powerOn, cursorBushes, cursorOf, IndicesWithin}
+use Rattle.forest.specs.inside.Cursor.{Cursor, cursor, seek, nextBush, nextRest, powerOn}
+use Rattle.forest.specs.inside.Cursor.{cursorBushes, cursorOf, IndicesWithin}
 
 -- The size of `before`: no index is above the limit.
 abbrev pub frontRoom : ℕ
@@ -48,6 +50,28 @@ abbrev pub Raises : Side → ℕ → Bush → Type 0
 Raises bSide e t = Unit {0}
 Raises aSide zero t = Unit {0}
 Raises aSide (suc e) t = Raisable t × Raises aSide e (leftPart t)
+
+-- There is room for one turn of the bush in hand.
+pub record TurnReady (lefts rights stack : List ℕ) (hand : Hand) : Type 0 where
+  pub lefts-length : length lefts ≡ cells
+  pub rights-length : length rights ≡ cells
+  pub used-low : limit < hand .used
+  pub used-high : hand .used < cells
+  pub height-high : hand .height < length stack
+  pub bush-high : hand .bush < cells
+
+-- The bush in hand was turned; every stored bush is kept.
+pub record Turned (s : Side) (lefts rights stack : List ℕ) (hand : Hand) (lefts′ rights′ stack′ : List ℕ) (hand′ : Hand)
+    : Type 0 where
+  pub low : hand .used ≤ hand′ .used
+  pub high : hand′ .used ≤ hand .used + 1
+  pub keeps : (x : Bush) (code : ℕ) → Stands lefts rights (hand .used) x code
+      → Stands lefts′ rights′ (hand′ .used) x code
+  pub turns : (t : Bush) (ts : List Bush) → Raises s 1 t → Stands lefts rights (hand .used) t (hand .bush)
+      → StackStands lefts rights (hand .used) ts stack (hand .height)
+      → Stands lefts′ rights′ (hand′ .used) (nextBush s t ts) (hand′ .bush)
+      × StackStands lefts′ rights′ (hand′ .used) (nextRest s t ts) stack′ (hand′ .height)
+      × (hand′ .height ≤ hand .height + 1)
 
 -- The stack stands for the bushes from the cursor on, and there is room for a power with the exponent e.
 pub record PowerRoom (s : Side) (lefts rights stack : List ℕ) (used height e : ℕ) : Type 0 where
