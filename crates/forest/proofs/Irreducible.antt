@@ -34,30 +34,30 @@ bush-more : (n : ℕ) (t : Bush) → Irreducible n t → Irreducible (suc n) t
 bush-more n (tip m) h = omega arith
 bush-more n (fork x y) h = (h .0, bush-more n x (h .1), bush-more n y (h .2))
 
-forest-more : (n : ℕ) (ts : List Bush) → IrreducibleForest n ts → IrreducibleForest (suc n) ts
+pub forest-more : (n : ℕ) (ts : List Bush) → IrreducibleForest n ts → IrreducibleForest (suc n) ts
 forest-more n [] h = tt
 forest-more n (t ∷ ts) h = (bush-more n t (h .0), forest-more n ts (h .1))
 
-join-irreducible : (n : ℕ) (x y : Bush) → Irreducible n x → Irreducible n y → Irreducible (suc n) (joinBushes x y)
+pub join-irreducible : (n : ℕ) (x y : Bush) → Irreducible n x → Irreducible n y → Irreducible (suc n) (joinBushes x y)
 join-irreducible n (tip zero) y h k = (tt, omega arith, bush-more n y k)
 join-irreducible n (tip (suc m)) (tip zero) h k = omega arith
 join-irreducible n (tip (suc m)) (tip (suc l)) h k = (tt, omega arith, omega arith)
 join-irreducible n (tip (suc m)) (fork u v) h k = (tt, omega arith, bush-more n (fork u v) k)
 join-irreducible n (fork u v) y h k = (tt, bush-more n (fork u v) h, bush-more n y k)
 
-left-irreducible : (n : ℕ) (t : Bush) → Irreducible n t → Irreducible (suc n) (leftPart t)
+pub left-irreducible : (n : ℕ) (t : Bush) → Irreducible n t → Irreducible (suc n) (leftPart t)
 left-irreducible n (tip m) h = omega arith
 left-irreducible n (fork x y) h = bush-more n x (h .1)
 
-right-irreducible : (n : ℕ) (t : Bush) → Irreducible n t → Irreducible (suc n) (rightPart t)
+pub right-irreducible : (n : ℕ) (t : Bush) → Irreducible n t → Irreducible (suc n) (rightPart t)
 right-irreducible n (tip m) h = omega arith
 right-irreducible n (fork x y) h = bush-more n y (h .2)
 
-first-irreducible : (n : ℕ) (ts : List Bush) → IrreducibleForest n ts → Irreducible n (firstBush ts)
+pub first-irreducible : (n : ℕ) (ts : List Bush) → IrreducibleForest n ts → Irreducible n (firstBush ts)
 first-irreducible n [] h = omega arith
 first-irreducible n (t ∷ ts) h = h .0
 
-later-irreducible : (n : ℕ) (ts : List Bush) → IrreducibleForest n ts → IrreducibleForest (suc n) (laterBushes ts)
+pub later-irreducible : (n : ℕ) (ts : List Bush) → IrreducibleForest n ts → IrreducibleForest (suc n) (laterBushes ts)
 later-irreducible n [] h = tt
 later-irreducible n (t ∷ ts) h = forest-more n ts (h .1)
 
@@ -74,18 +74,18 @@ put-tips (tip zero) (t ∷ ts) = omega arith
 put-tips (tip (suc m)) ts = omega arith
 put-tips (fork x y) ts = omega arith
 
-join-tips : (x y : Bush) → tips (joinBushes x y) ≤ tips x + tips y
+pub join-tips : (x y : Bush) → tips (joinBushes x y) ≤ tips x + tips y
 join-tips (tip zero) y = omega arith
 join-tips (tip (suc m)) (tip zero) = omega arith
 join-tips (tip (suc m)) (tip (suc l)) = omega arith
 join-tips (tip (suc m)) (fork u v) = omega arith
 join-tips (fork u v) y = omega arith
 
-part-tips : (t : Bush) → tips (leftPart t) + tips (rightPart t) ≤ tips t + 1
+pub part-tips : (t : Bush) → tips (leftPart t) + tips (rightPart t) ≤ tips t + 1
 part-tips (tip m) = omega arith
 part-tips (fork x y) = omega arith
 
-opened-tips : (ts : List Bush) → tips (firstBush ts) + forestTips (laterBushes ts) ≤ forestTips ts + 1
+pub opened-tips : (ts : List Bush) → tips (firstBush ts) + forestTips (laterBushes ts) ≤ forestTips ts + 1
 opened-tips [] = omega arith
 opened-tips (t ∷ ts) = omega arith
 

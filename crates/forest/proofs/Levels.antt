@@ -30,7 +30,7 @@ bush-trimmed : (d : ℕ) (t : Bush) (f : Form) → Trimmed f → Trimmed (bushLe
 bush-trimmed d (tip n) f h = reduce-level-trimmed d n f h
 bush-trimmed d (fork x y) f h = bush-trimmed (suc d) x (bushLevels 0 y f) (bush-trimmed 0 y f h)
 
-forest-trimmed : (ts : List Bush) → Trimmed (forestLevels ts)
+pub forest-trimmed : (ts : List Bush) → Trimmed (forestLevels ts)
 forest-trimmed [] = tt
 forest-trimmed (t ∷ ts) = bush-trimmed 0 t (forestLevels ts) (forest-trimmed ts)
 
@@ -44,7 +44,7 @@ bush-lowered d (tip n) f h = x0-lowers d n f h
 bush-lowered d (fork x y) f h = bush-lowered (suc d) x (bushLevels 0 y f) (bush-trimmed 0 y f h)
 
 -- A later generator passes the bush.
-bush-past : (s : Side) (k d j : ℕ) (t : Bush) (f : Form) → j ≡ k + d
+pub bush-past : (s : Side) (k d j : ℕ) (t : Bush) (f : Form) → j ≡ k + d
     → timesGenerator s (suc k) (bushLevels d t f) ≡ bushLevels d t (timesGenerator s j f)
 bush-past s k d j (tip n) f e = times-past s k d j n f e
 bush-past s k d j (fork x y) f e =
@@ -52,7 +52,7 @@ bush-past s k d j (fork x y) f e =
     ∙ ap (bushLevels (suc d) x) (bush-past s j 0 j y f (omega arith))
 
 -- x_0 joins two bushes, and x_0⁻¹ parts one.
-bush-join : (x y : Bush) (f : Form)
+pub bush-join : (x y : Bush) (f : Form)
     → timesGenerator bSide 0 (bushLevels 0 x (bushLevels 0 y f)) ≡ bushLevels 0 (joinBushes x y) f
 bush-join x y f =
     times-x0 bSide (bushLevels 0 x (bushLevels 0 y f)) ∙ bush-raised 0 x (bushLevels 0 y f) ∙ joined x y
@@ -64,14 +64,14 @@ bush-join x y f =
     joined (tip (suc n)) (fork p q) = refl
     joined (fork p q) v = refl
 
-bush-part : (t : Bush) (f : Form) → Trimmed f
+pub bush-part : (t : Bush) (f : Form) → Trimmed f
     → timesGenerator aSide 0 (bushLevels 0 t f) ≡ bushLevels 0 (leftPart t) (bushLevels 0 (rightPart t) f)
 bush-part (tip n) f h = times-x0 aSide (reduceLevel 0 n f) ∙ x0-opens n f
 bush-part (fork x y) f h =
     times-x0 aSide (bushLevels 1 x (bushLevels 0 y f)) ∙ bush-lowered 0 x (bushLevels 0 y f) (bush-trimmed 0 y f h)
 
 -- Tips behind the row need not be stored.
-forest-opened : (ts : List Bush) → forestLevels ts ≡ bushLevels 0 (firstBush ts) (forestLevels (laterBushes ts))
+pub forest-opened : (ts : List Bush) → forestLevels ts ≡ bushLevels 0 (firstBush ts) (forestLevels (laterBushes ts))
 forest-opened [] = refl
 forest-opened (t ∷ ts) = refl
 

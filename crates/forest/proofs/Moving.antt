@@ -12,7 +12,7 @@ use Rattle.forest.specs.inside.Cells.{Stands, StackStands, Popped, Pushe
 use Rattle.forest.specs.inside.Moves.{joinLetter, partLetter, stepLetter, Held, RaisableRow, Moved}
 
 -- What keeps each bush keeps a stack of them.
-stack-keeps : (lefts rights lefts′ rights′ : List ℕ) (used used′ : ℕ)
+pub stack-keeps : (lefts rights lefts′ rights′ : List ℕ) (used used′ : ℕ)
     → ((x : Bush) (code : ℕ) → Stands lefts rights used x code → Stands lefts′ rights′ used′ x code)
     → (ts : List Bush) (stack : List ℕ) (height : ℕ)
     → StackStands lefts rights used ts stack height → StackStands lefts′ rights′ used′ ts stack height

@@ -39,7 +39,7 @@ pub record Running (word lefts rights stack : List ℕ) (s : State) (i : ℕ) : 
   pub used-high : s .used + i ≤ limit + 1 + length word
   pub held : Held lefts rights stack s (rowOfWord (readFrom word i))
 
-bush-raisable : (n : ℕ) (t : Bush) → n < limit → Irreducible n t → Raisable t
+pub bush-raisable : (n : ℕ) (t : Bush) → n < limit → Irreducible n t → Raisable t
 bush-raisable n (tip m) p h = omega arith
 bush-raisable n (fork x y) p h = tt
 

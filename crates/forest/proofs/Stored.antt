@@ -46,7 +46,7 @@ module _ (lefts rights : List ℕ) where
     stack-kept used ts stack at v top (omega arith) s,
   )
 
-  stack-push : (used : ℕ) (t : Bush) (ts : List Bush) (stack : List ℕ) (height code : ℕ) → height < length stack
+  pub stack-push : (used : ℕ) (t : Bush) (ts : List Bush) (stack : List ℕ) (height code : ℕ) → height < length stack
       → Stands lefts rights used t code → StackStands lefts rights used ts stack height
       → StackStands lefts rights used (t ∷ ts) (set stack height code) (height + 1)
   stack-push used t ts stack height code p h s = (

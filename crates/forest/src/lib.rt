@@ -6,6 +6,7 @@ use refusals::Verdict;
 
 mod cells;
 mod leaves;
+mod powers;
 mod row;
 
 // The entries of `lefts` and of `rights`, scratch of `fill_tables`.

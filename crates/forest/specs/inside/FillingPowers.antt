@@ -3,7 +3,7 @@
 use mathlib.Core.Path.{_≡_}
 use mathlib.Core.Bool.{Bool, true, false, cond}
 use mathlib.Core.List.{List, [], _∷_}
-use Prim.Native.Nat.{ℕ, suc, _+_, _≤_}
+use Prim.Native.Nat.{ℕ, suc, _≤_}
 use lib.ListN.{length}
 use lib.Dec.{eqb, ltb}
 use Rattle.lists.specs.Entries.{total}
@@ -15,14 +15,7 @@ use Rattle.forest.specs.declared.Filling.{Filling}
 use Rattle.forest.specs.declared.Filling.the-variants.{Filled}
 use Rattle.forest.specs.Filling.{productForm, tablesFor, productTable}
 use Rattle.forest.specs.inside.Filling.{cells, fillingOf}
-
--- The entries of the stack in front of the cursor.
-abbrev pub frontRoom : ℕ
-frontRoom = limit + 1
-
--- The entries of the stack from the cursor on.
-abbrev pub rowRoom : ℕ
-rowRoom = limit + limit + 4
+use Rattle.forest.specs.inside.Seeking.{frontRoom, rowRoom}
 
 -- No index is above the limit.
 abbrev pub indicesFit : List ℕ → Bool
