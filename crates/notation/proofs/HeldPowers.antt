@@ -20,7 +20,8 @@ use Rattle.tokens.specs.Tokens.{AllInRange}
 use Rattle.tokens.specs.inside.Arrays.{Holding}
 use Rattle.forest.specs.Filling.{productForm, tablesFor, productTable}
 use Rattle.forest.specs.inside.Filling.{cells, fillingOf}
-use Rattle.forest.specs.inside.FillingPowers.{frontRoom, rowRoom, indicesFit, powersFit, judgedPowers, FilledPowers}
+use Rattle.forest.specs.inside.Seeking.{frontRoom, rowRoom}
+use Rattle.forest.specs.inside.FillingPowers.{indicesFit, powersFit, judgedPowers, FilledPowers}
 use Rattle.forest.specs.declared.Filling.{Filling}
 use Rattle.forest.specs.declared.Filling.the-variants.{Filled, Refused as NotFilled, Unfit}
 use Rattle.notation.specs.inside.Products.{heldPowers, Kept, fillingReply, FilledBy}
