@@ -10,6 +10,7 @@ use Rattle.claims.proofs.Sentences as Sentences
 use Rattle.claims.proofs.Trees as Trees
 use Rattle.claims.proofs.Lengths as Lengths
 use Rattle.claims.proofs.Spellings as Spellings
+use Rattle.claims.proofs.Texts as Texts
 use Rattle.claims.proofs.Receipts as Receipts
 use Rattle.claims.proofs.Worked as Worked
 
@@ -67,6 +68,9 @@ claims = record {
   deleting-ends = Spellings.deleting-ends;
   forms-are-spelled = Spellings.forms-are-spelled;
   spelling-has-length = Spellings.spelling-has-length;
+  decimals-are-numerals = Texts.decimals-are-numerals;
+  texts-are-tokens = Texts.texts-are-tokens;
+  texts-are-letters = Texts.texts-are-letters;
   lines-of-bytes = Receipts.lines-of-bytes;
   lines-in-parts = Receipts.lines-in-parts;
   serves-met-lines = Receipts.serves-met-lines;

@@ -1,6 +1,6 @@
 -- The demands of the functions: the relations of the calls, and the claims on them. An export's numbers say what an
 -- answer of its call says, so that its demands are those of the call. Assumes nothing.
-use mathlib.Core.Path.{_≡_, sym, _∙_, subst}
+use mathlib.Core.Path.{_≡_, refl, sym, _∙_, subst}
 use mathlib.Core.List.{List}
 use Prim.Native.Nat.{ℕ, _≤_}
 use denote.Ref.{now}
@@ -8,10 +8,18 @@ use lib.ListN.{length, take}
 use Rattle.group.specs.Letters.{Word}
 use Rattle.group.specs.Bytes.{bytesOf}
 use Rattle.group.specs.Limits.{limit}
+use Rattle.group.specs.Products.{formOf}
+use Rattle.group.specs.Powers.{SignedPower, productLetters, formPowers}
+use Rattle.group.proofs.Reduced.{form-reduced, form-trimmed}
+use Rattle.group.proofs.Theorems.{form-map, the-form}
 use Rattle.refusals.specs.Outcomes.{Outcome, accepted, verdictOf, replyOf}
 use Rattle.refusals.specs.declared.Verdict.{Verdict}
 use Rattle.refusals.specs.declared.Reply.{Reply}
+use Rattle.records.specs.Format.{Within}
 use Rattle.records.specs.Checking.{Checked}
+use Rattle.records.proofs.WordForms.{form-within}
+use Rattle.tokens.specs.Texts.{textOf}
+use Rattle.notation.specs.Contracts.{TextRecorded, TextWritten}
 use Rattle.words.specs.Recording.{Memory, memory, encodeWord, Recorded}
 use Rattle.words.specs.Comparing.{Decision, decisionOf, Compared}
 use Rattle.words.specs.declared.Comparison.{Comparison}
@@ -23,11 +31,15 @@ use Rattle.claims.specs.Given.{VerdictOfWords}
 use Rattle.claims.proofs.Demands.{demand1, demand2}
 use Rattle.claims.proofs.Exports.{exports-answer-as-calls}
 use Rattle.claims.proofs.Refusals.{no-refusal↔none, judged-accepted}
-use Rattle.claims.proofs.WordCalls.{call-keeps-map, call-front, judged-within, records↔joined}
+use Rattle.claims.proofs.Written.{listed↔joined}
+use Rattle.claims.proofs.WordCalls.{call-keeps-map, call-front, judged-within}
 use Rattle.claims.proofs.TwoWordCalls.{two-decided, own-calls}
 use Rattle.claims.proofs.SpellingCalls.{spelled-as, front-spelled, spelling-again}
+use Rattle.claims.proofs.TextCalls.{text-keeps-map, text-listed}
+use Rattle.claims.proofs.PhraseCalls.{phrase-gives, phrased-as, phrase-form}
 use Rattle.calls.specs.Demanded.{WordToRecord, CheckRecord, RecordToTreePair, RecordToLength, RecordToWord}
-use Rattle.calls.specs.Demanded.{TwoWords, Demanded, DemandedOfExports, OneRecord}
+use Rattle.calls.specs.Demanded.{TextToRecord, RecordToText, TwoWords, Demanded, DemandedOfExports, Fits}
+use Rattle.calls.specs.Demanded.{OneRecord}
 use Rattle.calls.proofs.Always.{always-below}
 use Rattle.calls.proofs.Calls.{calls, exports}
 
@@ -75,6 +87,21 @@ record-to-word {s} {t} {t′} {r} h =
     let first = demand1 .record-to-word s t t′ r h in
     record { refuses = first .0; unaltered = first .1; gives = demand2 .gives-word s t t′ r h }
 
+text-to-record : {t : List ℕ} {m m′ : Memory} {r : Reply} → TextRecorded t m m′ r → TextToRecord t m m′ (replyOf r)
+text-to-record {t} {m} {m′} {r} h =
+    let first = demand1 .text-to-record t m m′ r h in
+    record {
+      refuses = first .0;
+      unaltered = first .1;
+      gives = λ n e.
+          let ps = demand2 .is-text t m m′ r n h e in (ps .0, ps .1, ps .2, text-keeps-map (ps .0) h e (ps .2));
+    }
+
+record-to-text : {s t t′ : List ℕ} {r : Reply} → TextWritten s t t′ r → RecordToText s t t′ (replyOf r)
+record-to-text {s} {t} {t′} {r} h =
+    let first = demand1 .record-to-text s t t′ r h in
+    record { refuses = first .0; unaltered = first .1; gives = λ n e. phrase-gives h e }
+
 -- Where the two-word call answers, each memory is left as by the word's own call, which accepts.
 verdict : {u v : List ℕ} {m m′ k k′ : Memory} {r : Comparison} → Compared u m m′ v k k′ r → Answered (decisionOf r)
     → VerdictOfWords u m m′ v k k′ (decisionOf r)
@@ -114,6 +141,8 @@ demanded = record {
   record-to-word = always-below (calls .record-to-word) (λ κs s s′ t t′ r. record-to-word);
   same-element =
       always-below (calls .same-element) (λ κs u u′ b b′ a a′ e e′ v v′ c c′ d d′ g g′ r. same-element);
+  text-to-record = always-below (calls .text-to-record) (λ κs t t′ b b′ a a′ e e′ r. text-to-record);
+  record-to-text = always-below (calls .record-to-text) (λ κs s s′ t t′ r. record-to-text);
 }
 
 -- What holds of what a call answers holds of what is read in the numbers of its export.
@@ -144,6 +173,14 @@ demanded-of-exports = record {
       let k′ = memory (now c′) (now d′) (now g′) in
       let x = exports-answer-as-calls .same-element (now u) (now v) m m′ k k′ r h in
       subst (λ (o : Decision). TwoWords (now u) m m′ (now v) k k′ o) (sym (x .2)) (same-element (x .1)));
+  text-to-record = always-below (exports .text-to-record) (λ κs t t′ b b′ a a′ e e′ r h.
+      let m = memory (now b) (now a) (now e) in
+      let m′ = memory (now b′) (now a′) (now e′) in
+      let x = exports-answer-as-calls .text-to-record (now t) m m′ r h in
+      subst (λ (o : Outcome ℕ). TextToRecord (now t) m m′ o) (sym (x .2)) (text-to-record (x .1)));
+  record-to-text = always-below (exports .record-to-text) (λ κs s s′ t t′ r h.
+      let x = exports-answer-as-calls .record-to-text (now s) (now t) (now t′) r h in
+      subst (λ (o : Outcome ℕ). RecordToText (now s) (now t) (now t′) o) (sym (x .2)) (record-to-text (x .1)));
 }
 
 -- The record of a word is what an accepted call on it writes.
@@ -161,10 +198,42 @@ spells-record n h e =
     let front = front-spelled (f .1) in
     (spelling (f .0), front, f .1 .low, spelling-again (spelling (f .0)) (h .are-bytes) (f .1) front)
 
+-- A word whose reduced form is within the limits.
+fits-within : (w : Word) → Fits w → Within (formOf w)
+fits-within w h = subst Within (the-form w (h .form) (h .reduced) (h .trimmed) (h .same-map)) (h .within)
+
+within-fits : (w : Word) → Within (formOf w) → Fits w
+within-fits w h = record {
+  form = formOf w;
+  reduced = form-reduced w;
+  trimmed = form-trimmed w;
+  same-map = form-map w;
+  within = h;
+}
+
+-- The record of a text is what an accepted call on it writes.
+writes-text : {t : List ℕ} {m m′ : Memory} {r : Reply} (ps : List SignedPower) (n : ℕ) → TextRecorded t m m′ r
+    → t ≡ textOf ps → replyOf r ≡ accepted n
+    → Fits (productLetters ps) × (take n (m′ .buffer) ≡ encodeWord (productLetters ps))
+writes-text ps n h b e =
+    let call = text-listed ps h e b in (within-fits (productLetters ps) (call .within), call .is)
+
+-- The text that is written for a record has that record.
+phrases-record : {s t t′ : List ℕ} {r : Reply} (n : ℕ) → TextWritten s t t′ r → replyOf r ≡ accepted n
+    → (ps : List SignedPower) × (take n t′ ≡ textOf ps) × Fits (productLetters ps)
+    × (encodeWord (productLetters ps) ≡ s)
+phrases-record {s} n h e =
+    let f = phrased-as h e in
+    let again = phrase-form (h .are-bytes) (f .1) in
+    (formPowers (f .0), f .1 .front, within-fits (productLetters (formPowers (f .0))) (again .within), sym (again .is))
+
 pub one-record : OneRecord
 one-record = record {
   recordOf = encodeWord;
-  equal-just-when-joined = records↔joined;
+  equal-just-when-joined = λ w x h k.
+      listed↔joined w x (record { is = refl; within = fits-within w h })
+      (record { is = refl; within = fits-within x k });
+  short-fits = λ w few. within-fits w (form-within w few);
   written = always-below (calls .word-to-record) (λ κs u u′ b b′ a a′ e e′ r h w n. writes-record w n h);
   exported = always-below (exports .word-to-record) (λ κs u u′ b b′ a a′ e e′ r h w n is q.
       let m = memory (now b) (now a) (now e) in
@@ -175,4 +244,14 @@ one-record = record {
   spelled-exported = always-below (exports .record-to-word) (λ κs s s′ t t′ r h n e.
       let x = exports-answer-as-calls .record-to-word (now s) (now t) (now t′) r h in
       spells-record n (x .1) (sym (x .2) ∙ e));
+  written-text = always-below (calls .text-to-record) (λ κs t t′ b b′ a a′ e e′ r h ps n. writes-text ps n h);
+  exported-text = always-below (exports .text-to-record) (λ κs t t′ b b′ a a′ e e′ r h ps n is q.
+      let m = memory (now b) (now a) (now e) in
+      let m′ = memory (now b′) (now a′) (now e′) in
+      let x = exports-answer-as-calls .text-to-record (now t) m m′ r h in
+      writes-text ps n (x .1) is (sym (x .2) ∙ q));
+  phrased = always-below (calls .record-to-text) (λ κs s s′ t t′ r h n. phrases-record n h);
+  phrased-exported = always-below (exports .record-to-text) (λ κs s s′ t t′ r h n e.
+      let x = exports-answer-as-calls .record-to-text (now s) (now t) (now t′) r h in
+      phrases-record n (x .1) (sym (x .2) ∙ e));
 }

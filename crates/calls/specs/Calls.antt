@@ -2,7 +2,7 @@
 -- with its relation. A field names the function's own code, `routine`, and the relation, so that with another contract,
 -- or with a demand on its caller, the function has no proof here. `now x` is what stands behind the reference x: of a
 -- slice its elements. proofs/Calls.antt has the proofs, which are the functions' theorems.
---     Calls     the calls of document 01 and of the receipt program
+--     Calls     the calls of document 01, of 02, [1], and of the receipt program
 --     Exports   the calls for C and Rust
 -- Assumes nothing.
 use denote.Ref.{now}
@@ -12,6 +12,7 @@ use Rattle.words.specs.Recording.{memory, Recorded}
 use Rattle.words.specs.Comparing.{Compared, decisionOf}
 use Rattle.pairs.specs.Contracts.{Paired, Measured}
 use Rattle.spelling.specs.Contracts.{Spelled}
+use Rattle.notation.specs.Contracts.{TextRecorded, TextWritten}
 use Rattle.receipts.specs.Contracts.{Begun, ServedPart, Finished}
 use Rattle.thompson.specs.Codes.{codeOf, codeOfDecision, Passed}
 use Rattle.calls.specs.Always.{Always}
@@ -21,6 +22,8 @@ use Rattle.records.proofs.check_record as check-record
 use Rattle.pairs.proofs.record_to_tree_pair as record-to-tree-pair
 use Rattle.pairs.proofs.record_to_length as record-to-length
 use Rattle.spelling.proofs.record_to_word as record-to-word
+use Rattle.notation.proofs.text_to_record as text-to-record
+use Rattle.notation.proofs.record_to_text as record-to-text
 use Rattle.receipts.proofs.begin as begin
 use Rattle.receipts.proofs.serve as serve
 use Rattle.receipts.proofs.finish as finish
@@ -30,6 +33,8 @@ use Rattle.thompson.proofs.thompson_check_record as thompson-check-record
 use Rattle.thompson.proofs.thompson_record_to_tree_pair as thompson-record-to-tree-pair
 use Rattle.thompson.proofs.thompson_record_to_length as thompson-record-to-length
 use Rattle.thompson.proofs.thompson_record_to_word as thompson-record-to-word
+use Rattle.thompson.proofs.thompson_text_to_record as thompson-text-to-record
+use Rattle.thompson.proofs.thompson_record_to_text as thompson-record-to-text
 
 -- The calls of the papers and of the receipt program.
 pub record Calls : Type 2 where
@@ -47,6 +52,11 @@ pub record Calls : Type 2 where
       (λ κs u u′ b b′ a a′ e e′ v v′ c c′ d d′ g g′ r. Compared
       (now u) (memory (now b) (now a) (now e)) (memory (now b′) (now a′) (now e′))
       (now v) (memory (now c) (now d) (now g)) (memory (now c′) (now d′) (now g′)) r)
+  pub text-to-record : Always text-to-record.ended text-to-record.Symbol.routine
+      (λ κs t t′ b b′ a a′ e e′ r. TextRecorded (now t) (memory (now b) (now a) (now e))
+      (memory (now b′) (now a′) (now e′)) r)
+  pub record-to-text : Always record-to-text.ended record-to-text.Symbol.routine
+      (λ κs s s′ t t′ r. TextWritten (now s) (now t) (now t′) r)
   pub begin : Always begin.ended begin.Symbol.routine (λ κs out out′ r. Begun (now out) (now out′) r)
   pub serve : Always serve.ended serve.Symbol.routine
       (λ κs part part′ k k′ held held′ line line′ out out′ r. ServedPart (now part) k held (now line) (now out)
@@ -71,3 +81,8 @@ pub record Exports : Type 2 where
       (λ κs u u′ b b′ a a′ e e′ v v′ c c′ d d′ g g′ r. Passed (λ x. codeOfDecision (decisionOf x)) (Compared
       (now u) (memory (now b) (now a) (now e)) (memory (now b′) (now a′) (now e′))
       (now v) (memory (now c) (now d) (now g)) (memory (now c′) (now d′) (now g′))) r)
+  pub text-to-record : Always thompson-text-to-record.ended thompson-text-to-record.Symbol.routine
+      (λ κs t t′ b b′ a a′ e e′ r. Passed (λ x. codeOf (replyOf x))
+      (TextRecorded (now t) (memory (now b) (now a) (now e)) (memory (now b′) (now a′) (now e′))) r)
+  pub record-to-text : Always thompson-record-to-text.ended thompson-record-to-text.Symbol.routine
+      (λ κs s s′ t t′ r. Passed (λ x. codeOf (replyOf x)) (TextWritten (now s) (now t) (now t′)) r)

@@ -16,6 +16,7 @@ use Rattle.claims.specs.Trees.{KindsOfCarets, SymmetricWeights, LengthIsSum}
 use Rattle.claims.specs.Lengths.{LengthIsLeast, LetterChangesByOne, SomeLetterLowers, ZeroIsIdentity, LengthIsReached}
 use Rattle.claims.specs.Lengths.{NoShorterWord, FewCarets, LabelsGiveLength}
 use Rattle.claims.specs.Spellings.{DeletingEnds, FormsAreSpelled, SpellingHasLength}
+use Rattle.claims.specs.Texts.{DecimalsAreNumerals, TextsAreTokens, TextsAreLetters}
 use Rattle.claims.specs.Receipts.{LinesOfBytes, LinesInParts, ServesMetLines, CutKeepsReceipt, ReceiptsOfInput}
 use Rattle.claims.specs.Worked.{Worked, WorkedForms}
 
@@ -82,6 +83,10 @@ pub record Claims : Type 2 where
   pub deleting-ends : DeletingEnds
   pub forms-are-spelled : FormsAreSpelled
   pub spelling-has-length : SpellingHasLength
+  -- Subscript notation: claims, Texts.
+  pub decimals-are-numerals : DecimalsAreNumerals
+  pub texts-are-tokens : TextsAreTokens
+  pub texts-are-letters : TextsAreLetters
   -- Receipts: claims, Receipts.
   pub lines-of-bytes : LinesOfBytes
   pub lines-in-parts : LinesInParts

@@ -14,4 +14,6 @@ exports-answer-as-calls = record {
   record-to-word = λ s t t′ a h. (h .passed, h .meets, ap outcomeOf (h .numbers) ∙ reply-read (h .passed));
   same-element =
       λ u v m m′ k k′ a h. (h .passed, h .meets, ap decisionIn (h .numbers) ∙ comparison-read (h .passed));
+  text-to-record = λ t m m′ a h. (h .passed, h .meets, ap outcomeOf (h .numbers) ∙ reply-read (h .passed));
+  record-to-text = λ s t t′ a h. (h .passed, h .meets, ap outcomeOf (h .numbers) ∙ reply-read (h .passed));
 }

@@ -11,7 +11,7 @@ use lib.Seq.{sets}
 use Rattle.lists.proofs.Writes.{sets-front, sets-beyond}
 use Rattle.group.specs.Limits.{limit}
 use Rattle.group.specs.Forms.{Form, exponentSum, levels}
-use Rattle.group.specs.Powers.{formPowers, exponentSizes}
+use Rattle.group.specs.Powers.{formPowers, productLetters, exponentSizes}
 use Rattle.group.proofs.Powers.{powers-again, form-sizes}
 use Rattle.group.proofs.Reduced.{Canonical}
 use Rattle.group.proofs.Sizes.{trimmed-levels}
@@ -36,6 +36,7 @@ use Rattle.claims.specs.Given.{TextOfRecord}
 use Rattle.claims.proofs.Answers.{is-refused, refuses-when}
 use Rattle.claims.proofs.Refusals.{decoded↔refusal}
 use Rattle.claims.proofs.TextRefusals.{spelled, small-sum, high-levels}
+use Rattle.claims.proofs.Written.{Listed}
 use Rattle.claims.proofs.TextCalls.{text-listed}
 
 -- What is found of a record and a buffer, in each of the cases.
@@ -167,11 +168,19 @@ phrase-sent {s} {t} {t′} {n} {f} m c tables buffer =
       long-buffer = buffer;
     }
 
+-- The record that was read is that of the text's letters.
+pub phrase-form : {s t t′ : List ℕ} {n : ℕ} {f : Form} → Bytes s → PhrasedAs s t t′ n f
+    → Listed (productLetters (formPowers f)) s
+phrase-form {s} {t} {t′} {n} {f} bytes c =
+    let good = decode-form s f (c .reads) in
+    let same = powers-again f (good .0) in
+    record {
+      is = decode-accepts s f bytes (c .reads) .0 ∙ ap encode (sym same);
+      within = subst Within (sym same) (good .1);
+    }
+
 -- The record of the text.
 pub phrase-again : {s t t′ : List ℕ} {n k : ℕ} {f : Form} {m m′ : Memory} {r : Reply} → Bytes s → PhrasedAs s t t′ n f
     → TextRecorded (take n t′) m m′ r → replyOf r ≡ accepted k → take k (m′ .buffer) ≡ s
 phrase-again {s} {t} {t′} {n} {k} {f} bytes c h e =
-    let good = decode-form s f (c .reads) in
-    text-listed (formPowers f) h e (c .front) .is
-    ∙ ap encode (powers-again f (good .0))
-    ∙ sym (decode-accepts s f bytes (c .reads) .0)
+    text-listed (formPowers f) h e (c .front) .is ∙ sym (phrase-form bytes c .is)

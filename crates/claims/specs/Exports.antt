@@ -14,6 +14,7 @@ use Rattle.refusals.specs.declared.Reply.{Reply}
 use Rattle.records.specs.Checking.{Checked}
 use Rattle.pairs.specs.Contracts.{Paired, Measured}
 use Rattle.spelling.specs.Contracts.{Spelled}
+use Rattle.notation.specs.Contracts.{TextRecorded, TextWritten}
 use Rattle.words.specs.Recording.{Memory, Recorded}
 use Rattle.words.specs.Comparing.{Compared, decisionOf}
 use Rattle.words.specs.declared.Comparison.{Comparison}
@@ -37,3 +38,8 @@ pub record ExportsAnswerAsCalls : Type 0 where
   pub same-element : (u v : List ℕ) (m m′ k k′ : Memory) (a : Answer)
       → Passed (λ r. codeOfDecision (decisionOf r)) (Compared u m m′ v k k′) a
       → (r : Comparison) × Compared u m m′ v k k′ r × (decisionIn a ≡ decisionOf r)
+  pub text-to-record : (t : List ℕ) (m m′ : Memory) (a : Answer)
+      → Passed (λ r. codeOf (replyOf r)) (TextRecorded t m m′) a
+      → (r : Reply) × TextRecorded t m m′ r × (outcomeOf a ≡ replyOf r)
+  pub record-to-text : (s t t′ : List ℕ) (a : Answer) → Passed (λ r. codeOf (replyOf r)) (TextWritten s t t′) a
+      → (r : Reply) × TextWritten s t t′ r × (outcomeOf a ≡ replyOf r)

@@ -1,4 +1,4 @@
-// The calls on words and records, each lent memory of the sizes that a line asks for.
+// The calls on words, records and texts, each lent memory of the sizes that a line asks for.
 use crate::parts;
 use crate::printing;
 use crate::printing::BYTE;
@@ -23,7 +23,7 @@ fn tables(record: &[u8], b: &mut [u16], a: &mut [u16]) -> Answer {
     }
 }
 
-// The call of a kind.
+// The call of a kind, by the first letter of its name: `from` reads a text, `into` writes a record as one.
 fn call(
     kind: u8,
     given: &[u8],
@@ -37,6 +37,8 @@ fn call(
 ) -> Answer {
     match kind {
         b'c' => thompson::thompson_check_record(given),
+        b'f' => thompson::thompson_text_to_record(given, b, a, out),
+        b'i' => thompson::thompson_record_to_text(given, out),
         b'l' => thompson::thompson_record_to_length(given),
         b'p' => thompson::thompson_record_to_tree_pair(given, out, out2),
         b's' => thompson::thompson_record_to_word(given, out),

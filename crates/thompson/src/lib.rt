@@ -7,6 +7,7 @@ ghost use Rattle.words.specs.Recording.{memory, Recorded};
 ghost use Rattle.words.specs.Comparing.{decisionOf, Compared};
 ghost use Rattle.pairs.specs.Contracts.{Paired, Measured};
 ghost use Rattle.spelling.specs.Contracts.{Spelled};
+ghost use Rattle.notation.specs.Contracts.{TextRecorded, TextWritten};
 ghost use Rattle.thompson.specs.Codes.{codeOf, codeOfDecision, Passed};
 use refusals::Refusal;
 use refusals::Reply;
@@ -114,6 +115,30 @@ pub extern "C" fn thompson_record_to_word(record: &[u8], word: &mut [u8]) -> Ans
         (Spelled (now («record» .entry)) (now (word .entry)) (now (word .exit))) r ⌝ }
 {
     from_reply(spelling::record_to_word(record, word))
+}
+
+// Text to record; the value is the number of bytes written.
+#[no_mangle]
+pub extern "C" fn thompson_text_to_record(
+    text: &[u8],
+    b_table: &mut [u16],
+    a_table: &mut [u16],
+    record: &mut [u8],
+) -> Answer
+    ensures { λ r. ⌜ Passed (λ a. codeOf (replyOf a)) (TextRecorded (now (text .entry))
+        (memory (now («b_table» .entry)) (now («a_table» .entry)) (now («record» .entry)))
+        (memory (now («b_table» .exit)) (now («a_table» .exit)) (now («record» .exit)))) r ⌝ }
+{
+    from_reply(notation::text_to_record(text, b_table, a_table, record))
+}
+
+// Record to text; the value is the number of bytes of the text.
+#[no_mangle]
+pub extern "C" fn thompson_record_to_text(record: &[u8], text: &mut [u8]) -> Answer
+    ensures { λ r. ⌜ Passed (λ a. codeOf (replyOf a))
+        (TextWritten (now («record» .entry)) (now (text .entry)) (now (text .exit))) r ⌝ }
+{
+    from_reply(notation::record_to_text(record, text))
 }
 
 // Record to tree pair; the value is the number of carets of each tree.
