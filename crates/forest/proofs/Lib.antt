@@ -27,3 +27,6 @@ pub mod Reading
 -- the tables at exit
 pub mod RowTips
 pub mod Filled
+-- the same of powers: what is tested, and the own tables handed over
+pub mod Fitting
+pub mod HandedOver

@@ -1,4 +1,4 @@
--- The tips of a word's row, read off: the tables get the exponents of the word's form, and all its levels are read.
+-- The tips of a row, read off: the tables get the exponents of the word's form, and all its levels are read.
 -- Assumes nothing.
 use mathlib.Core.Path.{_≡_, sym, _∙_, ap}
 use mathlib.Core.List.{List, _++_}
@@ -8,11 +8,12 @@ use native.Mathlib.Decide.{decLe}
 use lib.ListN.{length, drop}
 use Rattle.lists.specs.Tables.{filled}
 use Rattle.lists.proofs.Tables.{values-same}
+use Rattle.group.specs.Letters.{Word}
 use Rattle.group.specs.Forms.{Side, exponent, levels}
 use Rattle.group.specs.Products.{formOf}
 use Rattle.group.proofs.Reduced.{form-trimmed}
 use Rattle.group.proofs.Sizes.{form-index, trimmed-levels}
-use Rattle.forest.specs.inside.Forest.{rowOfWord, tipAt}
+use Rattle.forest.specs.inside.Forest.{Bush, rowOfWord, tipAt}
 use Rattle.forest.specs.inside.Moves.{stepWord, bushesOf, Piled}
 use Rattle.forest.specs.inside.Leaves.{TipsReady}
 use Rattle.forest.proofs.Irreducible.{row-irreducible, bushes-tips}
@@ -42,23 +43,36 @@ row-ready {word} p f g =
       a-long = g;
     }
 
+-- Tables filled by functions that agree on their entries are the same.
+pub filled-same : (n : ℕ) (f g : ℕ → ℕ) (t : List ℕ) → ((i : ℕ) → i < n → f i ≡ g i) → filled n f t ≡ filled n g t
+filled-same n f g t same = ap (λ (v : List ℕ). v ++ drop n t) (values-same n f g same)
+
 -- A table filled by the row's tips is filled by the form's exponents.
 pub row-table : (s : Side) (word t : List ℕ)
     → filled (length word + 1) (tipAt s (bushesOf word)) t
     ≡ filled (length word + 1) (exponent s (formOf (stepWord word))) t
 row-table s word t =
-    ap (λ (v : List ℕ). v ++ drop (length word + 1) t)
-    (values-same (length word + 1) (tipAt s (bushesOf word)) (exponent s (formOf (stepWord word)))
-    (λ i h. sym (row-exponent (stepWord word) s i)))
+    filled-same (length word + 1) (tipAt s (bushesOf word)) (exponent s (formOf (stepWord word))) t
+    (λ i h. sym (row-exponent (stepWord word) s i))
 
--- Where the tips from n on are zeros, the form has at most n levels.
+-- Where tips stand for the form of a word, those from n on up to `end` are zeros, and so is the form from `end` on: the
+-- form has at most n levels.
+pub tips-levels : (w : Word) (ts : List Bush) (n end : ℕ)
+    → ((s : Side) (i : ℕ) → exponent s (formOf w) i ≡ tipAt s ts i)
+    → ((s : Side) (i : ℕ) → n ≤ i → i < end → tipAt s ts i ≡ 0)
+    → ((s : Side) (i : ℕ) → end ≤ i → exponent s (formOf w) i ≡ 0)
+    → levels (formOf w) ≤ n
+tips-levels w ts n end stand zeros beyond =
+    trimmed-levels (formOf w) n (form-trimmed w) (λ s i h. go s i h (decLe (suc i) end))
+  where
+    go : (s : Side) (i : ℕ) → n ≤ i → Dec (i < end) → exponent s (formOf w) i ≡ 0
+    go s i h (yes c) = stand s i ∙ zeros s i h c
+    go s i h (no c) = beyond s i (omega arith)
+
+-- So it is of a word's row.
 pub row-levels : (word : List ℕ) (n : ℕ)
     → ((s : Side) (i : ℕ) → n ≤ i → i < length word + 1 → tipAt s (bushesOf word) i ≡ 0)
     → levels (formOf (stepWord word)) ≤ n
 row-levels word n zeros =
-    trimmed-levels (formOf (stepWord word)) n (form-trimmed (stepWord word))
-    (λ s i h. go s i h (decLe (suc i) (length word + 1)))
-  where
-    go : (s : Side) (i : ℕ) → n ≤ i → Dec (i < length word + 1) → exponent s (formOf (stepWord word)) i ≡ 0
-    go s i h (yes c) = row-exponent (stepWord word) s i ∙ zeros s i h c
-    go s i h (no c) = form-index (stepWord word) s i (omega (arith, step-length word))
+    tips-levels (stepWord word) (bushesOf word) n (length word + 1) (row-exponent (stepWord word)) zeros
+    (λ s i h. form-index (stepWord word) s i (omega (arith, step-length word)))

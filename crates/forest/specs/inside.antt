@@ -8,3 +8,4 @@ pub mod Seeking
 pub mod Leaves
 pub mod Filling
 pub mod FillingPowers
+pub mod Handing
