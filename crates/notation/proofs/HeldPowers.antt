@@ -1,4 +1,4 @@
--- Powers that three arrays hold fit the engine: no index is above the limit, and the exponents sum to at most the limit.
+-- Powers that three slices hold fit the engine: no index is above the limit, and the exponents sum to at most the limit.
 -- Assumes nothing.
 use mathlib.Core.Path.{_≡_, refl, sym, ap, subst, _∙_}
 use mathlib.Core.Bool.{Bool, true, false, cond}
@@ -24,7 +24,7 @@ use Rattle.forest.specs.inside.Seeking.{frontRoom, rowRoom}
 use Rattle.forest.specs.inside.FillingPowers.{indicesFit, powersFit, judgedPowers, FilledPowers}
 use Rattle.forest.specs.declared.Filling.{Filling}
 use Rattle.forest.specs.declared.Filling.the-variants.{Filled, Refused as NotFilled, Unfit}
-use Rattle.notation.specs.inside.Products.{heldPowers, Kept, fillingReply, FilledBy}
+use Rattle.notation.specs.inside.Products.{Kept, fillingReply, FilledBy}
 
 -- Lists of one length: their powers, one by one.
 indices-fit : (ks es ss : List ℕ) → length es ≡ length ks → length ss ≡ length ks → AllInRange (powersIn ks es ss)
@@ -73,35 +73,22 @@ reply-number Unfit n h e = absurd (h refl)
 fit-outcome : (nb na : ℕ) (ps : List SignedPower) (f : Filling) → fillingOf f ≡ dropValue (tablesFor nb na ps) → Fit f
 fit-outcome nb na ps f e is = tables-numbered nb na ps (sym (ap fillingOf is) ∙ e)
 
-module _ {count : ℕ} {ks es ss : List ℕ} (h : Kept count ks es ss) where
-  abbrev front : List ℕ → List ℕ
-  front t = take count t
-
-  ks-length : length (front ks) ≡ count
-  ks-length = length-take-le count ks (h .ks-long)
-
-  es-length : length (front es) ≡ length (front ks)
-  es-length = length-take-le count es (h .es-long) ∙ sym ks-length
-
-  ss-length : length (front ss) ≡ length (front ks)
-  ss-length = length-take-le count ss (h .ss-long) ∙ sym ks-length
-
-  powers-fit : powersFit (front ks) (front es) (front ss) ≡ true
+module _ {ks es ss : List ℕ} (h : Kept ks es ss) where
+  powers-fit : powersFit ks es ss ≡ true
   powers-fit =
-      let few : total (front es) ≤ limit =
-      omega (arith, h .small, sizes-total (front ks) (front es) (front ss) es-length ss-length) in
+      let few : total es ≤ limit = omega (arith, h .small, sizes-total ks es ss (h .es-length) (h .ss-length)) in
       simp (
-        eq-eqb (length (front es)) (length (front ks)) es-length,
-        eq-eqb (length (front ss)) (length (front ks)) ss-length,
-        indices-fit (front ks) (front es) (front ss) es-length ss-length (h .in-range),
-        le-ltb limit (total (front es)) few,
+        eq-eqb (length es) (length ks) (h .es-length),
+        eq-eqb (length ss) (length ks) (h .ss-length),
+        indices-fit ks es ss (h .es-length) (h .ss-length) (h .in-range),
+        le-ltb limit (total es) few,
       )
 
   -- The engine takes them.
   module _ (b a lefts rights before stack : List ℕ) (p : length lefts ≡ cells) (q : length rights ≡ cells)
       (r : length before ≡ frontRoom) (s : length stack ≡ rowRoom) where
-    engine-judges : judgedPowers (front ks) (front es) (front ss) b a lefts rights before stack
-        ≡ tablesFor (length b) (length a) (heldPowers count ks es ss)
+    engine-judges : judgedPowers ks es ss b a lefts rights before stack
+        ≡ tablesFor (length b) (length a) (powersIn ks es ss)
     engine-judges =
         simp (
           eq-eqb (length lefts) cells p,
@@ -113,29 +100,30 @@ module _ {count : ℕ} {ks es ss : List ℕ} (h : Kept count ks es ss) where
 
     -- What it leaves.
     pub engine-fills : {b′ a′ : List ℕ} (f : Filling)
-        → FilledPowers (front ks) (front es) (front ss) b a lefts rights before stack b′ a′ f
-        → FilledBy (heldPowers count ks es ss) b a b′ a′ (fillingReply f)
+        → FilledPowers ks es ss b a lefts rights before stack b′ a′ f
+        → FilledBy (powersIn ks es ss) b a b′ a′ (fillingReply f)
     engine-fills f t = record {
       result = reply-dropped f fit ∙ so;
       b-table = t .b-table ∙ ap (λ (o : Outcome (List SignedPower)). productTable bSide o b) engine-judges;
       a-table = t .a-table ∙ ap (λ (o : Outcome (List SignedPower)). productTable aSide o a) engine-judges;
       levels-read = λ n e o.
-          t .levels-read n (reply-number f n fit e) (heldPowers count ks es ss) (engine-judges ∙ o);
+          t .levels-read n (reply-number f n fit e) (powersIn ks es ss) (engine-judges ∙ o);
     }
       where
-        so : fillingOf f ≡ dropValue (tablesFor (length b) (length a) (heldPowers count ks es ss))
+        so : fillingOf f ≡ dropValue (tablesFor (length b) (length a) (powersIn ks es ss))
         so = t .result ∙ ap (λ (o : Outcome (List SignedPower)). dropValue o) engine-judges
 
         fit : Fit f
-        fit = fit-outcome (length b) (length a) (heldPowers count ks es ss) f so
+        fit = fit-outcome (length b) (length a) (powersIn ks es ss) f so
 
--- Powers that were read and are held.
+-- Powers that were read, in the front of three arrays.
 pub held-kept : {ps : List SignedPower} {count : ℕ} {ks es ss : List ℕ} → Holding ps count ks es ss → AllInRange ps
-    → exponentSizes ps ≤ limit → Kept count ks es ss
-held-kept h range small = record {
-  ks-long = h .ks-long;
-  es-long = h .es-long;
-  ss-long = h .ss-long;
-  in-range = subst AllInRange (sym (h .holds)) range;
-  small = subst (λ (qs : List SignedPower). exponentSizes qs ≤ limit) (sym (h .holds)) small;
-}
+    → exponentSizes ps ≤ limit → Kept (take count ks) (take count es) (take count ss)
+held-kept {ps} {count} {ks} {es} {ss} h range small =
+    let size = length-take-le count ks (h .ks-long) in
+    record {
+      es-length = length-take-le count es (h .es-long) ∙ sym size;
+      ss-length = length-take-le count ss (h .ss-long) ∙ sym size;
+      in-range = subst AllInRange (sym (h .holds)) range;
+      small = subst (λ (qs : List SignedPower). exponentSizes qs ≤ limit) (sym (h .holds)) small;
+    }

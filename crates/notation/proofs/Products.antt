@@ -20,6 +20,7 @@ use Rattle.refusals.specs.declared.Refusal.the-variants.{ShortTable, ShortBuffe
 use Rattle.refusals.specs.declared.Reply.{Reply}
 use Rattle.refusals.specs.declared.Reply.the-variants.{Number, Refused}
 use Rattle.refusals.specs.Refusals.{numberOf, placeOf}
+use Rattle.refusals.specs.inside.Verdicts.{countIn}
 use Rattle.refusals.specs.Outcomes.{Outcome, accepted, refused, after, then, valued, dropValue, refusal, replyOf}
 use Rattle.refusals.proofs.Outcomes.{accepted-refused, drop-accepted, drop-refused, passed, refused-number, refused-place}
 use Rattle.records.specs.Format.{recordOf, encode, bufferSize}
@@ -170,6 +171,10 @@ module _ {ps : List SignedPower} {zb za b a : List ℕ} {v : Reply} (t : FilledB
           le-ltb nb (suc limit) (omega (arith, g)),
           le-ltb na (suc limit) (omega (arith, h)),
         )
+
+-- The number of a reply that is one.
+pub counted : {v : Reply} (k r : ℕ) → v ≡ Number k → r ≡ countIn v → v ≡ Number r
+counted {v} k r e h = e ∙ ap Number (sym (h ∙ ap countIn e))
 
 -- Powers beside a buffer that is long enough: what the engine refuses, and what is written.
 module _ {ps : List SignedPower} {b a b′ a′ : List ℕ} {v : Reply} (t : FilledBy ps b a b′ a′ v) where

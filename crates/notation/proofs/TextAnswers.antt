@@ -3,11 +3,11 @@
 use mathlib.Core.Path.{_≡_, refl, sym, ap, subst, _∙_}
 use mathlib.Core.List.{List}
 use Prim.Native.Nat.{ℕ, _≤_}
-use lib.ListN.{length}
+use lib.ListN.{length, take}
 use lib.Seq.{sets}
 use Rattle.group.specs.Limits.{limit}
 use Rattle.group.specs.Forms.{bSide, aSide}
-use Rattle.group.specs.Powers.{SignedPower, exponentSizes}
+use Rattle.group.specs.Powers.{SignedPower, exponentSizes, powersIn}
 use Rattle.refusals.specs.declared.Refusal.{Refusal}
 use Rattle.refusals.specs.declared.Reply.{Reply}
 use Rattle.refusals.specs.declared.Reply.the-variants as Replies
@@ -24,7 +24,7 @@ use Rattle.tokens.specs.declared.Tokens.the-variants.{Read, Refused}
 use Rattle.forest.specs.Filling.{productForm, productTable}
 use Rattle.words.specs.Recording.{Memory}
 use Rattle.notation.specs.Contracts.{judgedText, TextRecorded}
-use Rattle.notation.specs.inside.Products.{heldPowers, Kept, ProductRecorded}
+use Rattle.notation.specs.inside.Products.{Kept, ProductRecorded}
 use Rattle.notation.proofs.HeldPowers.{held-kept}
 
 -- Powers that were read are in range, and their sizes sum to at most the limit.
@@ -62,21 +62,30 @@ module _ {t ks es ss : List ℕ} {v : Tokens} (h : TokensRead t ks es ss v) wher
     found : (ps : List SignedPower) × (h .outcome ≡ accepted ps) × (exponentSizes ps ≡ p .sum)
     found = valued-accepted exponentSizes (h .outcome) (p .sum) (sym (h .result) ∙ ap tokensOf e)
 
-    held : heldPowers (p .count) ks es ss ≡ found .0
+    -- As they are held.
+    abbrev powers : List SignedPower
+    powers = powersIn (take (p .count) ks) (take (p .count) es) (take (p .count) ss)
+
+    held : powers ≡ found .0
     held = h .held p (found .0) e (found .1) .holds
 
-    pub text-kept : Kept (p .count) ks es ss
+    -- How many there are.
+    pub text-long : (p .count ≤ length ks) × (p .count ≤ length es) × (p .count ≤ length ss)
+    text-long =
+        let holds = h .held p (found .0) e (found .1) in (holds .ks-long, holds .es-long, holds .ss-long)
+
+    pub text-kept : Kept (take (p .count) ks) (take (p .count) es) (take (p .count) ss)
     text-kept =
         let range = read-accepted (found .0) (h .reads) (found .1) in
         held-kept (h .held p (found .0) e (found .1)) (range .0) (range .1)
 
-    pub text-sum : p .sum ≡ exponentSizes (heldPowers (p .count) ks es ss)
+    pub text-sum : p .sum ≡ exponentSizes powers
     text-sum = sym (found .2) ∙ ap exponentSizes (sym held)
 
-    pub text-recorded : {m m′ : Memory} {r : Reply} → ProductRecorded (heldPowers (p .count) ks es ss) m m′ r
+    pub text-recorded : {m m′ : Memory} {r : Reply} → ProductRecorded powers m m′ r
         → TextRecorded t m m′ r
     text-recorded {m} {m′} {r} w =
-        let same : judgedText (h .outcome) m ≡ judgedText (accepted (heldPowers (p .count) ks es ss)) m =
+        let same : judgedText (h .outcome) m ≡ judgedText (accepted powers) m =
         ap (λ (o : Outcome (List SignedPower)). judgedText o m) (found .1 ∙ ap accepted (sym held)) in
         record {
           found = h .outcome;

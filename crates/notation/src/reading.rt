@@ -1,16 +1,16 @@
 // The powers of a text: the tables and the record of their product.
+ghost use mathlib.Core.Path.{_≡_};
 ghost use Prim.Native.Nat.{_≤_};
 ghost use lib.ListN.{length};
-ghost use Rattle.group.specs.Powers.{exponentSizes};
+ghost use Rattle.group.specs.Powers.{powersIn, exponentSizes};
 ghost use Rattle.records.specs.Format.{bufferSize};
 ghost use Rattle.words.specs.Recording.{memory};
-ghost use Rattle.notation.specs.inside.Products.{heldPowers, Kept, fillingReply, FilledBy, ShortRoom};
+ghost use Rattle.notation.specs.inside.Products.{Kept, fillingReply, FilledBy, ShortRoom};
 ghost use Rattle.notation.specs.inside.Products.{ProductRecorded};
 use forest::Filling;
 use refusals::LIMIT;
 use refusals::Refusal;
 use refusals::Reply;
-use tokens::Powers;
 
 // The engine's answer as a reply.
 fn reply(filling: Filling) -> Reply
@@ -25,15 +25,14 @@ fn reply(filling: Filling) -> Reply
 
 // The exponents of the product's reduced form, in two tables, and how many levels were read; the scratch of the engine is the function's own.
 fn fill(
-    indices: &[u16; LIMIT],
-    exponents: &[u16; LIMIT],
-    sides: &[u8; LIMIT],
-    count: usize,
+    indices: &[u16],
+    exponents: &[u16],
+    sides: &[u8],
     b_table: &mut [u16],
     a_table: &mut [u16],
 ) -> Reply
-    requires { ⌜ Kept count (now indices) (now exponents) (now sides) ⌝ }
-    ensures { λ r. ⌜ FilledBy (heldPowers count (now (indices .entry)) (now (exponents .entry)) (now (sides .entry)))
+    requires { ⌜ Kept (now indices) (now exponents) (now sides) ⌝ }
+    ensures { λ r. ⌜ FilledBy (powersIn (now (indices .entry)) (now (exponents .entry)) (now (sides .entry)))
         (now («b_table» .entry)) (now («a_table» .entry)) (now («b_table» .exit)) (now («a_table» .exit)) r ⌝ }
 {
     let mut lefts = [0u16; forest::CELLS];
@@ -41,9 +40,9 @@ fn fill(
     let mut before = [0u16; forest::FRONT_ROOM];
     let mut stack = [0u16; forest::ROW_ROOM];
     reply(forest::fill_powers(
-        &indices[..count],
-        &exponents[..count],
-        &sides[..count],
+        indices,
+        exponents,
+        sides,
         b_table,
         a_table,
         &mut lefts,
@@ -55,20 +54,19 @@ fn fill(
 
 // Why powers are refused where the record buffer is too short: 11 and 6 come first. Nothing that is lent is touched.
 fn refuse_short(
-    indices: &[u16; LIMIT],
-    exponents: &[u16; LIMIT],
-    sides: &[u8; LIMIT],
-    count: usize,
+    indices: &[u16],
+    exponents: &[u16],
+    sides: &[u8],
     b_length: usize,
     a_length: usize,
 ) -> Refusal
-    requires { ⌜ Kept count (now indices) (now exponents) (now sides) ⌝ }
-    ensures { λ r. ⌜ ShortRoom (heldPowers count (now (indices .entry)) (now (exponents .entry)) (now (sides .entry)))
+    requires { ⌜ Kept (now indices) (now exponents) (now sides) ⌝ }
+    ensures { λ r. ⌜ ShortRoom (powersIn (now (indices .entry)) (now (exponents .entry)) (now (sides .entry)))
         «b_length» «a_length» r ⌝ }
 {
     let mut b = [0u16; LIMIT + 1];
     let mut a = [0u16; LIMIT + 1];
-    let filled = fill(indices, exponents, sides, count, &mut b, &mut a);
+    let filled = fill(indices, exponents, sides, &mut b, &mut a);
     if let Reply::Refused(r) = filled {
         return r;
     }
@@ -83,23 +81,22 @@ fn refuse_short(
 
 // The tables and the record of powers, where the buffer is long enough.
 fn write_powers(
-    indices: &[u16; LIMIT],
-    exponents: &[u16; LIMIT],
-    sides: &[u8; LIMIT],
-    count: usize,
+    indices: &[u16],
+    exponents: &[u16],
+    sides: &[u8],
     b_table: &mut [u16],
     a_table: &mut [u16],
     record: &mut [u8],
 ) -> Reply
-    requires { ⌜ Kept count (now indices) (now exponents) (now sides) ⌝ }
-    requires { ⌜ bufferSize (exponentSizes (heldPowers count (now indices) (now exponents) (now sides)))
+    requires { ⌜ Kept (now indices) (now exponents) (now sides) ⌝ }
+    requires { ⌜ bufferSize (exponentSizes (powersIn (now indices) (now exponents) (now sides)))
         ≤ length (now «record») ⌝ }
     ensures { λ r. ⌜ ProductRecorded
-        (heldPowers count (now (indices .entry)) (now (exponents .entry)) (now (sides .entry)))
+        (powersIn (now (indices .entry)) (now (exponents .entry)) (now (sides .entry)))
         (memory (now («b_table» .entry)) (now («a_table» .entry)) (now («record» .entry)))
         (memory (now («b_table» .exit)) (now («a_table» .exit)) (now («record» .exit))) r ⌝ }
 {
-    let filled = fill(indices, exponents, sides, count, b_table, a_table);
+    let filled = fill(indices, exponents, sides, b_table, a_table);
     if let Reply::Refused(r) = filled {
         return Reply::Refused(r);
     }
@@ -110,32 +107,29 @@ fn write_powers(
 
 // Powers beside the memory that is lent: 11, 6 and 7, in this order; else the tables and the record of their product.
 pub fn record_powers(
-    indices: &[u16; LIMIT],
-    exponents: &[u16; LIMIT],
-    sides: &[u8; LIMIT],
-    powers: Powers,
+    indices: &[u16],
+    exponents: &[u16],
+    sides: &[u8],
+    sum: usize,
     b_table: &mut [u16],
     a_table: &mut [u16],
     record: &mut [u8],
 ) -> Reply
-    requires { ⌜ Kept (powers .count) (now indices) (now exponents) (now sides) ⌝ }
-    requires { ⌜ powers .sum ≡ exponentSizes
-        (heldPowers (powers .count) (now indices) (now exponents) (now sides)) ⌝ }
+    requires { ⌜ Kept (now indices) (now exponents) (now sides) ⌝ }
+    requires { ⌜ sum ≡ exponentSizes (powersIn (now indices) (now exponents) (now sides)) ⌝ }
     ensures { λ r. ⌜ ProductRecorded
-        (heldPowers (powers .count) (now (indices .entry)) (now (exponents .entry)) (now (sides .entry)))
+        (powersIn (now (indices .entry)) (now (exponents .entry)) (now (sides .entry)))
         (memory (now («b_table» .entry)) (now («a_table» .entry)) (now («record» .entry)))
         (memory (now («b_table» .exit)) (now («a_table» .exit)) (now («record» .exit))) r ⌝ }
 {
-    let count = powers.count;
-    if record.len() < records::BASE_SIZE + 4 * powers.sum {
+    if record.len() < records::BASE_SIZE + 4 * sum {
         return Reply::Refused(refuse_short(
             indices,
             exponents,
             sides,
-            count,
             b_table.len(),
             a_table.len(),
         ));
     }
-    write_powers(indices, exponents, sides, count, b_table, a_table, record)
+    write_powers(indices, exponents, sides, b_table, a_table, record)
 }

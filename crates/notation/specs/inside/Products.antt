@@ -2,7 +2,7 @@
 use mathlib.Core.Path.{_≡_}
 use mathlib.Core.List.{List}
 use Prim.Native.Nat.{ℕ, suc, _≤_}
-use lib.ListN.{length, take}
+use lib.ListN.{length}
 use lib.Seq.{sets}
 use Rattle.group.specs.Forms.{bSide, aSide, levels}
 use Rattle.group.specs.Limits.{limit}
@@ -19,17 +19,12 @@ use Rattle.words.specs.Recording.{Memory}
 use Rattle.tokens.specs.Tokens.{AllInRange}
 use Rattle.notation.specs.Contracts.{roomFor}
 
--- The powers that the first entries of three arrays hold.
-abbrev pub heldPowers : (count : ℕ) (ks es ss : List ℕ) → List SignedPower
-heldPowers n ks es ss = powersIn (take n ks) (take n es) (take n ss)
-
--- The arrays hold so many powers; they are in range, and their sizes sum to at most the limit.
-pub record Kept (count : ℕ) (ks es ss : List ℕ) : Type 0 where
-  pub ks-long : count ≤ length ks
-  pub es-long : count ≤ length es
-  pub ss-long : count ≤ length ss
-  pub in-range : AllInRange (heldPowers count ks es ss)
-  pub small : exponentSizes (heldPowers count ks es ss) ≤ limit
+-- Three slices of one length hold powers that are in range, and their sizes sum to at most the limit.
+pub record Kept (ks es ss : List ℕ) : Type 0 where
+  pub es-length : length es ≡ length ks
+  pub ss-length : length ss ≡ length ks
+  pub in-range : AllInRange (powersIn ks es ss)
+  pub small : exponentSizes (powersIn ks es ss) ≤ limit
 
 -- The number of levels that the engine read, or its refusal; scratch of other sizes is never met, and 0 stands for it.
 abbrev pub fillingReply : Filling → Reply
