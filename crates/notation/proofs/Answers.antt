@@ -8,10 +8,8 @@ use lib.ListN.{length, take, drop, getD, replicate, length-drop, length-replicat
 use lib.Seq.{take-nil}
 use Rattle.lists.specs.inside.Writes.{Wrote}
 use Rattle.lists.proofs.Writes.{sets-front, wrote-same, wrote-none}
-use Rattle.group.specs.Forms.{bSide, aSide, Form, levels}
-use Rattle.group.specs.Limits.{limit}
+use Rattle.group.specs.Forms.{bSide, aSide, Form}
 use Rattle.group.specs.Powers.{SignedPower, formPowers}
-use Rattle.group.proofs.Sizes.{trimmed-levels}
 use Rattle.refusals.specs.Outcomes.{Outcome, refusal, then}
 use Rattle.refusals.specs.Placing.{fitting, Placed}
 use Rattle.refusals.specs.inside.Verdicts.{refusalIn}
@@ -24,7 +22,7 @@ use Rattle.refusals.specs.declared.Reply.the-variants as Replies
 use Rattle.refusals.proofs.Placing.{place-refused, place-short, place-long}
 use Rattle.records.specs.Reading.{decode}
 use Rattle.records.specs.inside.Contracts.{Decoded}
-use Rattle.records.proofs.ClearedTables.{Cleared, cleared, Read, read-refused, read-accepted, within-behind, table-at}
+use Rattle.records.proofs.ClearedTables.{Cleared, Read, read-refused, read-accepted, within-levels, table-at}
 use Rattle.records.proofs.ClearedTables.{table-length}
 use Rattle.tokens.specs.Texts.{furtherText, textOf}
 use Rattle.notation.specs.Contracts.{textIn, TextWritten}
@@ -73,10 +71,6 @@ powers-placed ps {own} {text} {text′} {n} {r} room w p =
     subst (λ (o : Outcome (List ℕ)). Placed o text text′ r)
     (ap₂ (λ (k : ℕ) (t : List ℕ). fitting k t text) size (ap (drop 1) front ∙ sym (text-further ps))) p
 
--- The call's own tables.
-pub own-cleared : Cleared (suc limit) (replicate (suc limit) 0)
-own-cleared = cleared (suc limit) (omega arith)
-
 -- The text of what was read.
 abbrev readBeside : Outcome Form → List ℕ → Outcome (List ℕ)
 readBeside o text = then o (λ f. textBeside (formPowers f) text)
@@ -93,20 +87,16 @@ text-refused {s = s} {text = text} c d e r is =
 
 -- The tables of a record that is accepted.
 module _ {n : ℕ} {s z b a : List ℕ} {f : Form} (c : Cleared n z) (r : Read s z b a f) where
-  -- The form has no index above the limit.
-  form-levels : levels f ≤ suc limit
-  form-levels =
-      trimmed-levels f (suc limit) (r .canonical .trimmed) (λ s i h. within-behind f (r .within) s i (omega arith))
-
   -- The powers of the tables are those of the form.
   table-powers : powersOf b a ≡ formPowers f
   table-powers =
+      let few = within-levels f (r .canonical) (r .within) in
       ap₂ (λ (ps qs : List SignedPower). ps ++ qs)
       (rising-form f b 0
-      (omega (arith, form-levels, ap length (r .b-holds), table-length f (r .within) c bSide, c .room))
+      (omega (arith, few, ap length (r .b-holds), table-length f (r .within) c bSide, c .room))
       (λ i. ap (λ (t : List ℕ). getD t i 0) (r .b-holds) ∙ table-at f (r .within) c bSide i))
       (falling-form f a 0
-      (omega (arith, form-levels, ap length (r .a-holds), table-length f (r .within) c aSide, c .room))
+      (omega (arith, few, ap length (r .a-holds), table-length f (r .within) c aSide, c .room))
       (λ i. ap (λ (t : List ℕ). getD t i 0) (r .a-holds) ∙ table-at f (r .within) c aSide i))
 
 module _ {n : ℕ} {s z b a : List ℕ} {v : Verdict} (c : Cleared n z) (d : Decoded s z z b a v) (e : v ≡ Accepted) where
@@ -114,10 +104,11 @@ module _ {n : ℕ} {s z b a : List ℕ} {v : Verdict} (c : Cleared n z) (d : Dec
   pub text-room : length (furtherText (powersOf b a)) ≤ textRoom
   text-room =
       let f = read-accepted c d e in
+      let few = within-levels (f .0) (f .1 .canonical) (f .1 .within) in
       omega (
         arith,
         ap (λ (ps : List SignedPower). length (furtherText ps)) (table-powers c (f .1)),
-        form-size (f .0) (omega (arith, form-levels c (f .1))) (omega (arith, f .1 .within .sum)),
+        form-size (f .0) (omega (arith, few)) (omega (arith, f .1 .within .sum)),
         f .1 .within .sum,
       )
 

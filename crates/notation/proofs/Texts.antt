@@ -3,18 +3,16 @@
 use mathlib.Core.Path.{_≡_, refl, sym, ap, _∙_}
 use mathlib.Core.Bool.{Bool, true, false, cond}
 use mathlib.Core.List.{List, [], _∷_, _++_, append-assoc, append-nil}
-use Prim.Native.Nat.{ℕ, zero, suc, _+_, _*_, _/_, _%_, _<_, _≤_}
-use native.Mathlib.Decide.{decLt}
+use Prim.Native.Nat.{ℕ, zero, suc, _+_, _*_, _<_, _≤_}
 use native.Mathlib.Numerals.{add-one}
 use native.Mathlib.Omega.{arith}
 use borrow.Author.Tests.{ne-eqb}
 use lib.Dec.{eqb}
 use lib.ListN.{length, drop, set, length-append, length-set}
-use Rattle.io.specs.Digits.{glyph, digits, Fewest}
 use Rattle.lists.specs.inside.Writes.{Wrote, Writing}
 use Rattle.lists.proofs.Writes.{write-more, writing-same, writing-length}
 use Rattle.numerals.specs.Decimals.{decimal}
-use Rattle.numerals.proofs.Decimals.{digits-found}
+use Rattle.numerals.proofs.Decimals.{decimal-short}
 use Rattle.group.specs.Forms.{Side, bSide, aSide}
 use Rattle.group.specs.Powers.{SignedPower, signedPower, putSigned}
 use Rattle.tokens.specs.Tokens.{xSign, powerSign, minusSign, space, exponentText, tokenText}
@@ -71,40 +69,14 @@ pub exponent-more : {i : Bool} (e : ℕ) → i ≡ false → (e ≡ 1 → ⊥)
     → exponentText (cond i aSide bSide) e ≡ powerSign ∷ decimal e
 exponent-more e h g = rw (h, ne-eqb e 1 g) refl
 
--- As many digits as are asked for.
-digits-length : (k n : ℕ) → length (digits 10 k n) ≡ k
-digits-length zero n = refl
-digits-length (suc k) n =
-    omega (arith, length-append (digits 10 k (n / 10)) (glyph (n % 10) ∷ []), digits-length k (n / 10))
-
--- Four digits at most.
-few-digits : (k n : ℕ) → k ≤ 4 → Fewest 10 1 n k → length (decimal n) ≤ 4
-few-digits k n h f = omega (arith, digits-length k n, ap length (digits-found n k f refl))
-
--- A number below 10,000 has at most four digits.
-four-digits : (n : ℕ) → n < 10000 → length (decimal n) ≤ 4
-four-digits n h = one (decLt n 10)
-  where
-    three : Dec (n < 1000) → 100 ≤ n → length (decimal n) ≤ 4
-    three (yes l) g = few-digits 3 n (omega arith) (omega arith, l, λ p. g)
-    three (no l) g = few-digits 4 n (omega arith) (omega arith, h, λ p. omega arith)
-
-    two : Dec (n < 100) → 10 ≤ n → length (decimal n) ≤ 4
-    two (yes l) g = few-digits 2 n (omega arith) (omega arith, l, λ p. g)
-    two (no l) g = three (decLt n 1000) (omega arith)
-
-    one : Dec (n < 10) → length (decimal n) ≤ 4
-    one (yes l) = few-digits 1 n (omega arith) (omega arith, l, λ p. absurd (omega arith))
-    one (no l) = two (decLt n 100) (omega arith)
-
 -- An exponent has at most two signs more.
 exponent-size : (s : Side) (e : ℕ) → e < 10000 → length (exponentText s e) ≤ 6
-exponent-size aSide e h = omega (arith, four-digits e h)
+exponent-size aSide e h = omega (arith, decimal-short e 3 h)
 exponent-size bSide e h = go (eqb e 1)
   where
     go : (t : Bool) → length (cond t [] (powerSign ∷ decimal e)) ≤ 6
     go true = omega arith
-    go false = omega (arith, four-digits e h)
+    go false = omega (arith, decimal-short e 3 h)
 
 -- A power has at most 12 bytes for each 1 of its exponent.
 pub put-size : (s : Side) (k e : ℕ) → k < 10000 → e < 10000 → length (furtherText (putSigned s k e [])) ≤ 12 * e
@@ -113,7 +85,7 @@ put-size s k (suc e) h g =
     omega (
       arith,
       further-length s k (suc e) (omega arith),
-      four-digits k h,
+      decimal-short k 3 h,
       exponent-size s (suc e) g,
     )
 

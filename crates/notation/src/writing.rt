@@ -5,7 +5,6 @@ ghost use mathlib.Core.List.{[]};
 ghost use Prim.Native.Nat.{suc, _+_, _-_, _≤_};
 ghost use lib.ListN.{length, take, drop};
 ghost use Rattle.lists.specs.inside.Writes.{Wrote};
-ghost use Rattle.numerals.specs.Decimals.{decimal};
 ghost use Rattle.group.specs.Forms.{bSide, aSide};
 ghost use Rattle.group.specs.Limits.{limit};
 ghost use Rattle.group.specs.Powers.{putSigned};
@@ -23,29 +22,6 @@ pub const TABLE: usize = LIMIT + 1;
 // The most bytes of a text: at most LIMIT powers, and at most 12 bytes for each: ` x`, `^-`, and four digits twice.
 const ROOM: usize = 12 * LIMIT;
 
-// All bytes of a text, at a place of a buffer; the answer is the place behind them.
-fn put(bytes: &[u8], out: &mut [u8], at: usize) -> usize
-    requires { ⌜ at + length (now bytes) ≤ length (now out) ⌝ }
-    ensures { λ r. ⌜ Wrote (now (bytes .entry)) (now (out .entry)) at (now (out .exit)) r ⌝ }
-{
-    let mut i = 0;
-    while i < bytes.len() {
-        out[at + i] = bytes[i];
-        i += 1;
-    }
-    at + i
-}
-
-// A number in decimal digits.
-fn put_decimal(n: usize, out: &mut [u8], at: usize) -> usize
-    requires { ⌜ at + length (decimal n) ≤ length (now out) ⌝ }
-    ensures { λ r. ⌜ Wrote (decimal n) (now (out .entry)) at (now (out .exit)) r ⌝ }
-{
-    let mut digits = [0u8; 20];
-    let k = io::decimal(n as u64, &mut digits);
-    put(&digits[..k], out, at)
-}
-
 // An exponent: nothing for 1, else `^` and the decimal; for an inverse always `^-` and the decimal.
 fn put_exponent(inverse: bool, e: usize, out: &mut [u8], at: usize) -> usize
     requires { ⌜ at + length (exponentText (cond inverse aSide bSide) e) ≤ length (now out) ⌝ }
@@ -54,13 +30,13 @@ fn put_exponent(inverse: bool, e: usize, out: &mut [u8], at: usize) -> usize
     if inverse {
         out[at] = b'^';
         out[at + 1] = b'-';
-        return put_decimal(e, out, at + 2);
+        return printing::put_decimal(e as u64, out, at + 2);
     }
     if e == 1 {
         return at;
     }
     out[at] = b'^';
-    put_decimal(e, out, at + 1)
+    printing::put_decimal(e as u64, out, at + 1)
 }
 
 // A space and the token of a power; nothing for exponent 0.
@@ -74,7 +50,7 @@ fn put_power(inverse: bool, k: usize, e: u16, out: &mut [u8], at: usize) -> usiz
     }
     out[at] = b' ';
     out[at + 1] = b'x';
-    let end = put_decimal(k, out, at + 2);
+    let end = printing::put_decimal(k as u64, out, at + 2);
     put_exponent(inverse, e as usize, out, end)
 }
 
@@ -120,7 +96,7 @@ fn place(further: &[u8], n: usize, text: &mut [u8]) -> Reply
     if text.len() < n - 1 {
         return Reply::Refused(Refusal::ShortBuffer);
     }
-    Reply::Number(put(&further[1..n], text, 0))
+    Reply::Number(printing::put(&further[1..n], text, 0))
 }
 
 // The text of two tables, at the front of the lent buffer, or 7.

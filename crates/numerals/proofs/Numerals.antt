@@ -29,7 +29,7 @@ more-digits most n h =
     ∙ ap (λ (c : ℕ). decimalWithin most (n / 10) ++ (c ∷ [])) (glyph-digit (n % 10) (omega arith))
 
 -- One digit behind others.
-digits-snoc : (d : List ℕ) (c : ℕ) → Digits d → Digit c → Digits (d ++ (c ∷ []))
+pub digits-snoc : (d : List ℕ) (c : ℕ) → Digits d → Digit c → Digits (d ++ (c ∷ []))
 digits-snoc [] c h g = (g, tt)
 digits-snoc (x ∷ d) c h g = (h .0, digits-snoc d c (h .1) g)
 

@@ -1,6 +1,6 @@
 -- The value of digits: in two parts, and held at a bound (02, [1]: an index or an exponent above the limit is refused,
 -- and its digits may be any number). Assumes nothing.
-use mathlib.Core.Path.{_≡_, refl, ap, _∙_}
+use mathlib.Core.Path.{_≡_, refl, sym, ap, _∙_}
 use mathlib.Core.List.{List, [], _∷_, _++_}
 use Prim.Native.Nat.{ℕ, _+_, _-_, _*_, _≤_, _<_}
 use native.Mathlib.Decide.{decLt}
@@ -24,6 +24,38 @@ smaller-first m n h = simp (lt-ltb m n h)
 
 pub smaller-second : (m n : ℕ) → n ≤ m → smaller m n ≡ n
 smaller-second m n h = simp (le-ltb m n h)
+
+-- It is at most the second.
+pub smaller-le : (m n : ℕ) → smaller m n ≤ n
+smaller-le m n = go (decLt m n)
+  where
+    go : Dec (m < n) → smaller m n ≤ n
+    go (yes lt) = omega (arith, smaller-first m n lt)
+    go (no le) = omega (arith, smaller-second m n (omega arith))
+
+-- A sum that is held at a bound.
+pub smaller-sum : (m n c : ℕ) → smaller (smaller m c + n) c ≡ smaller (m + n) c
+smaller-sum m n c = go (decLt m c)
+  where
+    go : Dec (m < c) → smaller (smaller m c + n) c ≡ smaller (m + n) c
+    go (yes lt) = ap (λ (x : ℕ). smaller (x + n) c) (smaller-first m c lt)
+    go (no ge) =
+        ap (λ (x : ℕ). smaller (x + n) c) (smaller-second m c (omega arith))
+        ∙ smaller-second (c + n) c (omega arith) ∙ sym (smaller-second (m + n) c (omega arith))
+
+-- A number that is below the bound when held at it.
+pub smaller-below : (m c : ℕ) → smaller m c < c → m < c
+smaller-below m c lt = go (decLt m c)
+  where
+    go : Dec (m < c) → m < c
+    go (yes h) = h
+    go (no ge) = absurd (omega (arith, smaller-second m c (omega arith)))
+
+-- The capped value of digits in two parts.
+pub capped-append : (d e : List ℕ) (most v : ℕ)
+    → cappedFrom most v (d ++ e) ≡ cappedFrom most (cappedFrom most v d) e
+capped-append [] e most v = refl
+capped-append (c ∷ d) e most v = capped-append d e most (smaller (10 * v + (c - 48)) most)
 
 -- The bound, once met, is kept.
 capped-kept : (d : List ℕ) (most : ℕ) → cappedFrom most most d ≡ most
@@ -58,10 +90,3 @@ pub capped-most : (d : List ℕ) (most v : ℕ) → v ≤ most → cappedFrom mo
 capped-most [] most v l = l
 capped-most (c ∷ d) most v l =
     capped-most d most (smaller (10 * v + (c - 48)) most) (smaller-le (10 * v + (c - 48)) most)
-  where
-    smaller-le : (m n : ℕ) → smaller m n ≤ n
-    smaller-le m n = go (decLt m n)
-      where
-        go : Dec (m < n) → smaller m n ≤ n
-        go (yes lt) = omega (arith, smaller-first m n lt)
-        go (no le) = omega (arith, smaller-second m n (omega arith))

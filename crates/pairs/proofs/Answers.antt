@@ -5,7 +5,7 @@ use mathlib.Core.Bool.{Bool, true, false}
 use mathlib.Core.List.{List}
 use Prim.Native.Nat.{ℕ, suc}
 use native.Mathlib.Omega.{arith}
-use lib.ListN.{length, replicate}
+use lib.ListN.{length}
 use lib.Dec.{ltb}
 use lib.Seq.{sets}
 use Rattle.group.specs.Forms.{bSide, aSide, Form}
@@ -18,7 +18,7 @@ use Rattle.refusals.specs.declared.Verdict.the-variants.{Accepted, Refused}
 use Rattle.refusals.proofs.Outcomes.{accepted-refused, refused-number}
 use Rattle.records.specs.Reading.{decode}
 use Rattle.records.specs.inside.Contracts.{Decoded}
-use Rattle.records.proofs.ClearedTables.{Cleared, cleared, Read, read-refused, read-accepted}
+use Rattle.records.proofs.ClearedTables.{Cleared, Read, read-refused, read-accepted}
 use Rattle.trees.specs.Trees.{Tree}
 use Rattle.trees.specs.Building.{treeOf}
 use Rattle.trees.specs.Pairs.{caretsOf, minusTree, plusTree}
@@ -35,10 +35,6 @@ use Rattle.refusals.specs.declared.Reply.the-variants as Replies
 use Rattle.pairs.specs.Contracts.{pairedIn, Paired, Measured}
 use Rattle.pairs.specs.inside.Passing.{pairingIn, lengthIn}
 use Rattle.pairs.proofs.Tables.{tree-of-table, tables-fit}
-
--- The calls' own tables.
-pub own-cleared : Cleared (suc limit) (replicate (suc limit) 0)
-own-cleared = cleared (suc limit) (omega arith)
 
 -- An answer of the pair writer that is not unfit is passed on.
 pairing-passed : (x : Pairing) (o : Outcome ℕ) → pairingOf x ≡ o → (o ≡ refused 0 0 → ⊥) → replyOf (pairingIn x) ≡ o

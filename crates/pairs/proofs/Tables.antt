@@ -11,10 +11,9 @@ use Rattle.group.specs.Forms.{Side, bSide, aSide, Form, exponents}
 use Rattle.group.specs.Limits.{limit}
 use Rattle.group.proofs.Exponents.{exponents-at}
 use Rattle.group.proofs.Reduced.{Canonical}
-use Rattle.group.proofs.Sizes.{trimmed-levels}
 use Rattle.refusals.specs.Outcomes.{accepted}
 use Rattle.records.specs.Format.{Within}
-use Rattle.records.proofs.ClearedTables.{Cleared, tableOf, within-behind, table-length, table-at}
+use Rattle.records.proofs.ClearedTables.{Cleared, tableOf, within-levels, table-length, table-at}
 use Rattle.trees.specs.Building.{treeOf}
 use Rattle.trees.specs.Pairs.{caretsOfSides, caretsOf}
 use Rattle.trees.specs.inside.Counting.{maxCarets}
@@ -25,9 +24,7 @@ use Rattle.trees.proofs.Pairs.{carets-limit}
 
 -- N never exceeds 2 · limit + 1.
 pub carets-most : (f : Form) → Canonical f → Within f → caretsOf f ≤ maxCarets
-carets-most f c w =
-    carets-limit limit f (trimmed-levels f (suc limit) (c .trimmed) (λ s i h. within-behind f w s i (omega arith)))
-    (w .sum)
+carets-most f c w = carets-limit limit f (within-levels f c w) (w .sum)
 
 module _ (f : Form) (w : Within f) {z : List ℕ} (c : Cleared (suc limit) z) where
   table-same : (s : Side) → SameEntries (tableOf s f z) (exponents s f)

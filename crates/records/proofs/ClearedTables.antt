@@ -10,9 +10,10 @@ use borrow.Author.Tests.{le-ltb}
 use Rattle.lists.specs.Tables.{filled}
 use Rattle.lists.proofs.Tables.{filled-length, filled-at, filled-beyond}
 use Rattle.lists.proofs.Totals.{same-replicate}
-use Rattle.group.specs.Forms.{Side, bSide, aSide, Form, exponent}
+use Rattle.group.specs.Forms.{Side, bSide, aSide, Form, exponent, levels}
 use Rattle.group.specs.Limits.{limit}
 use Rattle.group.proofs.Reduced.{Canonical}
+use Rattle.group.proofs.Sizes.{trimmed-levels}
 use Rattle.refusals.specs.Outcomes.{Outcome, accepted, refused, then, dropValue, refusal, verdictOf}
 use Rattle.refusals.specs.inside.Verdicts.{refusalIn}
 use Rattle.refusals.specs.declared.Refusal.{Refusal}
@@ -35,6 +36,10 @@ pub record Cleared (n : ℕ) (z : List ℕ) : Type 0 where
 pub cleared : (n : ℕ) → suc limit ≤ n → Cleared n (replicate n 0)
 cleared n h = record { size = length-replicate {A = ℕ} n 0; room = h; zeros = same-replicate n }
 
+-- A call's own tables.
+pub own-cleared : Cleared (suc limit) (replicate (suc limit) 0)
+own-cleared = cleared (suc limit) (omega arith)
+
 -- A table filled with the exponents of a side.
 abbrev pub tableOf : Side → Form → List ℕ → List ℕ
 tableOf s f z = filled (suc limit) (exponent s f) z
@@ -46,6 +51,10 @@ within-behind f w s i h = go (exponent s f i) refl
     go : (e : ℕ) → exponent s f i ≡ e → exponent s f i ≡ 0
     go zero q = q
     go (suc e) q = absurd (omega (arith, w .indices s i (omega arith)))
+
+-- If it is canonical, it has no level behind the limit either.
+pub within-levels : (f : Form) → Canonical f → Within f → levels f ≤ suc limit
+within-levels f c w = trimmed-levels f (suc limit) (c .trimmed) (λ s i h. within-behind f w s i (omega arith))
 
 -- The table of a form within the limits has the exponent of every index.
 module _ (f : Form) (w : Within f) {n : ℕ} {z : List ℕ} (c : Cleared n z) where

@@ -8,9 +8,11 @@ use Rattle.lines.specs.Lines.{lineFeed}
 use Rattle.lists.specs.inside.Writes.{Wrote}
 use Rattle.lists.proofs.Writes.{write-then, wrote-same}
 use Rattle.numerals.specs.Decimals.{decimal}
+use Rattle.numerals.proofs.Decimals.{decimal-length}
+use Rattle.printing.specs.Printing.{Put}
+use Rattle.printing.proofs.Fitting.{put-behind}
 use Rattle.rows.specs.Text.{hexOf}
 use Rattle.rows.specs.inside.Steps.{numberThen, numberSize, fourNumbers, numbersSize, recordRow}
-use Rattle.numerals.proofs.Decimals.{decimal-length}
 
 -- A field with the byte behind it, then the rest.
 pub write-field : {s t u : List ℕ} {i j r : ℕ} (field : List ℕ) (behind : ℕ) (rest : List ℕ)
@@ -20,6 +22,12 @@ write-field field behind rest v w = wrote-same (append-assoc field (behind ∷ [
 -- A number of 64 bits and a byte take at most so many bytes.
 number-length : (n behind : ℕ) → n < 2 ^ 64 → length (numberThen n behind) ≤ numberSize
 number-length n behind h = omega (arith, length-append (decimal n) (behind ∷ []), decimal-length n h)
+
+-- Bytes behind them: there is room where there is room for the longest number.
+pub behind-number : {bytes s t u : List ℕ} {i j r : ℕ} (n behind : ℕ) → n < 2 ^ 64
+    → i + (numberSize + length bytes) ≤ length s → Wrote (numberThen n behind) s i t j → Put bytes t j u r
+    → Wrote bytes t j u r
+behind-number n behind h room w p = put-behind (omega (arith, number-length n behind h)) w p
 
 -- Where a number and a byte behind it end.
 pub number-end : {s t : List ℕ} {i j : ℕ} (n behind : ℕ) → n < 2 ^ 64 → Wrote (numberThen n behind) s i t j

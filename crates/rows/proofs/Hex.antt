@@ -9,7 +9,7 @@ use Rattle.io.specs.Digits.{glyph}
 use Rattle.lists.specs.inside.Writes.{Wrote}
 use Rattle.lists.proofs.Writes.{wrote-same}
 use Rattle.rows.specs.Text.{hexOf}
-use Rattle.rows.proofs.Loops.{Passing, pass-length}
+use Rattle.printing.proofs.Loops.{Passing, pass-length}
 
 -- Two digits for each byte.
 pub hex-length : (s : List ℕ) → length (hexOf s) ≡ 2 * length s

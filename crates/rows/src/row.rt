@@ -36,7 +36,7 @@ fn put_refusal(number: u64, r: Refusal, out: &mut [u8], at: usize) -> usize
         (now (out .exit)) end ⌝ }
 {
     let behind_line = text::put_number(number, b' ', out, at);
-    let behind_word = text::put(b"refused ", out, behind_line);
+    let behind_word = printing::put(b"refused ", out, behind_line);
     let behind_number = text::put_number(refusals::number(r) as u64, b' ', out, behind_word);
     text::put_number(refusals::place(r) as u64, b'\n', out, behind_number)
 }
@@ -59,7 +59,7 @@ fn put_record(k: u64, l: u64, m: u64, n: u64, record: &[u8], out: &mut [u8], at:
 {
     let behind_numbers = put_numbers(k, l, m, n, out, at);
     let behind_record = text::put_hex(record, out, behind_numbers);
-    text::put(b"\n", out, behind_record)
+    printing::put(b"\n", out, behind_record)
 }
 
 // The carets of two tables.

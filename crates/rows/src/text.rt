@@ -9,35 +9,12 @@ ghost use Rattle.numerals.specs.Decimals.{decimal};
 ghost use Rattle.rows.specs.Text.{hexOf};
 ghost use Rattle.rows.specs.inside.Steps.{numberSize};
 
-// All bytes of a text.
-pub fn put(text: &[u8], out: &mut [u8], at: usize) -> usize
-    requires { ⌜ at + length (now text) ≤ length (now out) ⌝ }
-    ensures { λ r. ⌜ Wrote (now (text .entry)) (now (out .entry)) at (now (out .exit)) r ⌝ }
-{
-    let mut i = 0;
-    while i < text.len() {
-        out[at + i] = text[i];
-        i += 1;
-    }
-    at + i
-}
-
-// A number in decimal digits.
-fn put_decimal(n: u64, out: &mut [u8], at: usize) -> usize
-    requires { ⌜ at + 20 ≤ length (now out) ⌝ }
-    ensures { λ r. ⌜ Wrote (decimal n) (now (out .entry)) at (now (out .exit)) r ⌝ }
-{
-    let mut digits = [0u8; 20];
-    let k = io::decimal(n, &mut digits);
-    put(&digits[..k], out, at)
-}
-
 // A number in decimal digits, and a byte behind it.
 pub fn put_number(n: u64, behind: u8, out: &mut [u8], at: usize) -> usize
     requires { ⌜ at + numberSize ≤ length (now out) ⌝ }
     ensures { λ r. ⌜ Wrote (decimal n ++ (behind ∷ [])) (now (out .entry)) at (now (out .exit)) r ⌝ }
 {
-    let end = put_decimal(n, out, at);
+    let end = printing::put_decimal(n, out, at);
     out[end] = behind;
     end + 1
 }

@@ -2,17 +2,16 @@
 -- of the form, and its number of letters decides. Assumes nothing.
 use mathlib.Core.Path.{_≡_, sym, refl, ap, ap₂, _∙_}
 use mathlib.Core.List.{List, _++_}
-use Prim.Native.Nat.{ℕ, suc, _<_, _≤_}
+use Prim.Native.Nat.{ℕ, _<_, _≤_}
 use native.Mathlib.Omega.{arith}
-use lib.ListN.{length, replicate}
+use lib.ListN.{length}
 use borrow.Author.Tests.{lt-ltb, le-ltb}
 use Rattle.lists.specs.inside.Writes.{Wrote}
 use Rattle.lists.proofs.Writes.{wrote-same}
 use Rattle.group.specs.Bytes.{bytesOf}
-use Rattle.group.specs.Forms.{bSide, aSide, Form, exponent, levels}
+use Rattle.group.specs.Forms.{bSide, aSide, Form, exponent}
 use Rattle.group.specs.Limits.{limit}
 use Rattle.group.proofs.Bytes.{bytes-length}
-use Rattle.group.proofs.Sizes.{trimmed-levels}
 use Rattle.refusals.specs.Outcomes.{accepted, refused, refusal}
 use Rattle.refusals.specs.inside.Verdicts.{refusalIn}
 use Rattle.refusals.specs.declared.Refusal.{Refusal}
@@ -22,7 +21,7 @@ use Rattle.refusals.specs.declared.Verdict.the-variants.{Accepted, Refused}
 use Rattle.refusals.specs.declared.Reply.the-variants as Replies
 use Rattle.records.specs.Reading.{decode}
 use Rattle.records.specs.inside.Contracts.{Decoded}
-use Rattle.records.proofs.ClearedTables.{Cleared, cleared, Read, read-refused, read-accepted, within-behind, table-at}
+use Rattle.records.proofs.ClearedTables.{Cleared, Read, read-refused, read-accepted, within-levels, table-at}
 use Rattle.spelling.specs.Runs.{Run}
 use Rattle.spelling.specs.inside.RunLetters.{spelt}
 use Rattle.spelling.specs.Spelling.{spelling, runs}
@@ -31,10 +30,6 @@ use Rattle.spelling.specs.Contracts.{spelledIn, Spelled}
 use Rattle.spelling.proofs.Runs.{runs-up-to}
 use Rattle.spelling.proofs.Lengths.{spelt-length}
 use Rattle.spelling.proofs.Words.{spelling-runs}
-
--- The call's own tables.
-pub own-cleared : Cleared (suc limit) (replicate (suc limit) 0)
-own-cleared = cleared (suc limit) (omega arith)
 
 -- A refusal of the reader is passed on, and nothing was written.
 module _ {n : ℕ} {s z b a : List ℕ} {v : Verdict} {q : Refusal} (c : Cleared n z) (d : Decoded s z z b a v)
@@ -53,13 +48,11 @@ module _ {n : ℕ} {s z b a : List ℕ} {f : Form} (c : Cleared n z) (r : Read s
   a-entries : (i : ℕ) → readExponent a i ≡ exponent aSide f i
   a-entries i = ap (λ (t : List ℕ). readExponent t i) (r .a-holds) ∙ table-at f (r .within) c aSide i
 
-  table-levels : levels f ≤ suc limit
-  table-levels =
-      trimmed-levels f (suc limit) (r .canonical .trimmed) (λ s i h. within-behind f (r .within) s i (omega arith))
-
   table-runs : risingRuns b ++ fallingRuns a ≡ runs f
   unfolding risingRuns fallingRuns
-  table-runs = runs-up-to f limit (readExponent b) (readExponent a) table-levels b-entries a-entries
+  table-runs =
+      runs-up-to f limit (readExponent b) (readExponent a) (within-levels f (r .canonical) (r .within)) b-entries
+      a-entries
 
   table-spelling : tableSpelling b a ≡ spelling f
   table-spelling =

@@ -11,9 +11,9 @@ use lib.Dec.{ltb, leb}
 use lib.ListN.{length, getD, drop, length-append, length-drop, drop-of-length-le}
 use lib.Seq.{drop-cons, getD-drop}
 use Rattle.numerals.specs.Decimals.{decimal, Digit, Digits, NoDigit, valueFrom, cappedFrom, Leading, Numeral}
-use Rattle.numerals.proofs.Numerals.{decimal-numeral, decimal-digits, decimal-value, numeral-decimal}
+use Rattle.numerals.proofs.Numerals.{digits-snoc, decimal-numeral, decimal-digits, decimal-value, numeral-decimal}
 use Rattle.numerals.proofs.Prefixes.{digits-prefix}
-use Rattle.numerals.proofs.Values.{capped-below, capped-above, capped-most}
+use Rattle.numerals.proofs.Values.{capped-append, capped-below, capped-above, capped-most}
 use Rattle.group.specs.Limits.{limit}
 use Rattle.tokens.specs.inside.Spelling.{isDigit, most, nextValue, DigitsRun, DigitsRead, NumberRead}
 
@@ -36,16 +36,6 @@ digit-false c = go (ltb c 48) refl
     go : (low : Bool) → ltb c 48 ≡ low → cond low false (leb c 57) ≡ false → Digit c → ⊥
     go true e h d = omega (arith, ltb-true c 48 e, d .0)
     go false e h d = omega (arith, leb-false c 57 h, d .1)
-
--- Digits behind digits.
-digits-append : (d e : List ℕ) → Digits d → Digits e → Digits (d ++ e)
-digits-append [] e hd he = he
-digits-append (c ∷ d) e hd he = (hd .0, digits-append d e (hd .1) he)
-
--- Their value.
-capped-append : (d e : List ℕ) (m v : ℕ) → cappedFrom m v (d ++ e) ≡ cappedFrom m (cappedFrom m v d) e
-capped-append [] e m v = refl
-capped-append (c ∷ d) e m v = capped-append d e m _
 
 -- A value up to the limit is that of the digits; one above it says that theirs is above it.
 capped-cut : {value : ℕ} (d : List ℕ) → value ≡ cappedFrom most 0 d
@@ -81,7 +71,7 @@ module _ {t : List ℕ} {at value i : ℕ} (r : DigitsRun t at value i) where
           within = omega arith;
           text = r .text ∙ ap (λ (s : List ℕ). r .run ++ s) (drop-next t i lt)
               ∙ sym (append-assoc (r .run) (c ∷ []) (drop (i + 1) t));
-          digits = digits-append (r .run) (c ∷ []) (r .digits) (digit-true c h, tt);
+          digits = digits-snoc (r .run) c (r .digits) (digit-true c h);
           valued = e ∙ ap (λ (v : ℕ). nextValue v c) (r .valued) ∙ sym (capped-append (r .run) (c ∷ []) most 0);
         }
 

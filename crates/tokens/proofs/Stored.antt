@@ -8,7 +8,7 @@ use native.Mathlib.Omega.{arith}
 use lib.ListN.{length, take, set, length-append, length-set}
 use lib.Seq.{take-suc-set, length-take-le}
 use Rattle.numerals.specs.Decimals.{smaller}
-use Rattle.numerals.proofs.Values.{smaller-first, smaller-second}
+use Rattle.numerals.proofs.Values.{smaller-first, smaller-second, smaller-le, smaller-sum, smaller-below}
 use Rattle.group.specs.Limits.{limit}
 use Rattle.group.specs.Powers.{SignedPower, signedPower, sizeOf, exponentSizes, sideOf, powersIn}
 use Rattle.tokens.specs.declared.Powers.{Powers}
@@ -101,32 +101,10 @@ holding-more {ps} {count} {ks} {es} {ss} k e s h hk he hs = record {
       ∙ ap (λ (qs : List SignedPower). qs ++ (signedPower (sideOf s) k e ∷ [])) (h .holds));
 }
 
--- A sum that is held at a bound.
-smaller-sum : (m n c : ℕ) → smaller (smaller m c + n) c ≡ smaller (m + n) c
-smaller-sum m n c = go (decLt m c)
-  where
-    go : Dec (m < c) → smaller (smaller m c + n) c ≡ smaller (m + n) c
-    go (yes lt) = ap (λ (x : ℕ). smaller (x + n) c) (smaller-first m c lt)
-    go (no ge) =
-        ap (λ (x : ℕ). smaller (x + n) c) (smaller-second m c (omega arith))
-        ∙ smaller-second (c + n) c (omega arith) ∙ sym (smaller-second (m + n) c (omega arith))
-
--- One that is below it.
-smaller-below : (m c : ℕ) → smaller m c < c → m < c
-smaller-below m c lt = go (decLt m c)
-  where
-    go : Dec (m < c) → m < c
-    go (yes h) = h
-    go (no ge) = absurd (omega (arith, smaller-second m c (omega arith)))
-
 module _ {ps : List SignedPower} {kept : Powers} {ks es ss : List ℕ} (st : Stored ps kept ks es ss) where
   -- The sum is a number of one size.
   pub stored-within : kept .sum ≤ most
-  stored-within = go (decLt (exponentSizes ps) most)
-    where
-      go : Dec (exponentSizes ps < most) → kept .sum ≤ most
-      go (yes lt) = omega (arith, st .summed, smaller-first (exponentSizes ps) most lt)
-      go (no ge) = omega (arith, st .summed, smaller-second (exponentSizes ps) most (omega arith))
+  stored-within = omega (arith, st .summed, smaller-le (exponentSizes ps) most)
 
   -- One power more.
   pub stored-more : {p : Power} {r : Powers} {ks′ es′ ss′ : List ℕ} → Keepable p kept ks es ss

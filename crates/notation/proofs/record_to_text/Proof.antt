@@ -1,6 +1,7 @@
 -- `record_to_text` meets its contract. Assumes nothing.
 use borrow.Author.Needs.{needs}
-use Rattle.notation.proofs.Answers.{own-cleared, text-refused, text-room, text-answer}
+use Rattle.records.proofs.ClearedTables.{own-cleared}
+use Rattle.notation.proofs.Answers.{text-refused, text-room, text-answer}
 use Rattle.notation.proofs.record_to_text.Statement.{statement}
 use Rattle.notation.proofs.record_to_text.Tie as tie
 

@@ -1,6 +1,6 @@
 -- `record_to_length` meets its contract. Assumes nothing.
 use borrow.Author.Needs.{needs}
-use Rattle.pairs.proofs.Answers.{own-cleared}
+use Rattle.records.proofs.ClearedTables.{own-cleared}
 use Rattle.pairs.proofs.Answers.{length-refused, length-answer}
 use Rattle.pairs.proofs.record_to_length.Statement.{statement}
 use Rattle.pairs.proofs.record_to_length.Tie as tie

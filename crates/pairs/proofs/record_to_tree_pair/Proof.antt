@@ -1,6 +1,6 @@
 -- `record_to_tree_pair` meets its contract. Assumes nothing.
 use borrow.Author.Needs.{needs}
-use Rattle.pairs.proofs.Answers.{own-cleared}
+use Rattle.records.proofs.ClearedTables.{own-cleared}
 use Rattle.pairs.proofs.Answers.{pair-refused, pair-answer}
 use Rattle.pairs.proofs.record_to_tree_pair.Statement.{statement}
 use Rattle.pairs.proofs.record_to_tree_pair.Tie as tie

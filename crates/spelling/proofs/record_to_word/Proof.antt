@@ -1,7 +1,8 @@
 -- `record_to_word` meets its contract. Assumes nothing.
 use native.Mathlib.Omega.{arith}
 use borrow.Author.Needs.{needs}
-use Rattle.spelling.proofs.Answers.{own-cleared, word-refused, word-long, word-short, word-answer}
+use Rattle.records.proofs.ClearedTables.{own-cleared}
+use Rattle.spelling.proofs.Answers.{word-refused, word-long, word-short, word-answer}
 use Rattle.spelling.proofs.record_to_word.Statement.{statement}
 use Rattle.spelling.proofs.record_to_word.Tie as tie
 

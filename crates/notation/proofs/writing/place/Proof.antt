@@ -26,9 +26,7 @@ part-put-end : tie.Need-part-put-end
 part-put-end c = search needs
 
 put-requires : tie.Need-put-requires
-put-requires c κs =
-    let args = c .before .before .before .before .before .before .args in
-    omega (arith, length-take (args .n - 1) (drop 1 (args .further .now)))
+put-requires c κs = search needs
 
 same-length : tie.Need-same-length
 same-length c = search needs
@@ -38,7 +36,9 @@ returns-3 c =
     let at-put = c .before .before in
     let at-if2 = at-put .before .before .before .before in
     let args = at-if2 .before .before .before .args in
-    long-placed (args .further .now) (args .text .now) (args .n) (omega arith) (omega arith) (at-put .put .ensures)
+    let size = length-take (args .n - 1) (drop 1 (args .further .now)) in
+    long-placed (args .further .now) (args .text .now) (args .n) (omega arith) (omega arith)
+    (at-put .put .ensures .fits (omega (arith, size)))
 
 pub place-spec : {M : Type 1} → statement M
 place-spec =

@@ -2,7 +2,9 @@
 use mathlib.Core.Path.{sym, ap}
 use native.Mathlib.Omega.{arith}
 use lib.ListN.{length, length-set}
+use borrow.Author.Needs.{needs}
 use Rattle.lists.proofs.Writes.{write-then, wrote-same, wrote-none}
+use Rattle.printing.proofs.Fitting.{put-behind}
 use Rattle.notation.proofs.Texts.{exponent-inverse, exponent-one, exponent-more}
 use Rattle.notation.proofs.Texts.{one-wrote, two-wrote, two-length}
 use Rattle.notation.proofs.writing.put_exponent.Statement.{statement}
@@ -29,14 +31,7 @@ add-put-decimal c =
     omega (arith, ap length (exponent-inverse (branch .before .before .args .e) (branch .if1 .taken)))
 
 put-decimal-requires : tie.Need-put-decimal-requires
-put-decimal-requires c κs =
-    let branch = c .before in
-    let args = branch .before .before .args in
-    omega (
-      arith,
-      ap length (exponent-inverse (args .e) (branch .if1 .taken)),
-      two-length (args .out .now) (args .at) 94 45,
-    )
+put-decimal-requires c κs = search needs
 
 same-length : tie.Need-same-length
 same-length c =
@@ -48,9 +43,11 @@ returns : tie.Need-returns
 returns c =
     let put = c .before .before in
     let branch = put .before .before in
-    let args = branch .before .before .args in
-    wrote-same (sym (exponent-inverse (args .e) (branch .if1 .taken)))
-    (write-then (two-wrote (args .out .now) (args .at) 94 45) (put .put-decimal .ensures))
+    let entry = branch .before .before in
+    let text = exponent-inverse (entry .args .e) (branch .if1 .taken) in
+    let signs = two-wrote (entry .args .out .now) (entry .args .at) 94 45 in
+    let digits = put-behind (omega (arith, entry .pre, ap length text)) signs (put .put-decimal .ensures) in
+    wrote-same (sym text) (write-then signs digits)
 
 returns-2 : tie.Need-returns-2
 returns-2 c =
@@ -69,14 +66,7 @@ add-put-decimal-2 c =
     omega (arith, ap length (exponent-more (entry .args .e) (branch .before .if1 .left) (branch .if2 .left)))
 
 put-decimal-requires-2 : tie.Need-put-decimal-requires-2
-put-decimal-requires-2 c κs =
-    let branch = c .before in
-    let args = branch .before .before .before .args in
-    omega (
-      arith,
-      ap length (exponent-more (args .e) (branch .before .if1 .left) (branch .if2 .left)),
-      length-set (args .out .now) (args .at) 94,
-    )
+put-decimal-requires-2 c κs = search needs
 
 same-length-2 : tie.Need-same-length-2
 same-length-2 c =
@@ -88,9 +78,11 @@ returns-3 : tie.Need-returns-3
 returns-3 c =
     let put = c .before .before in
     let branch = put .before .before in
-    let args = branch .before .before .before .args in
-    wrote-same (sym (exponent-more (args .e) (branch .before .if1 .left) (branch .if2 .left)))
-    (write-then (one-wrote (args .out .now) (args .at) 94) (put .put-decimal2 .ensures))
+    let entry = branch .before .before .before in
+    let text = exponent-more (entry .args .e) (branch .before .if1 .left) (branch .if2 .left) in
+    let sign = one-wrote (entry .args .out .now) (entry .args .at) 94 in
+    let digits = put-behind (omega (arith, entry .pre, ap length text)) sign (put .put-decimal2 .ensures) in
+    wrote-same (sym text) (write-then sign digits)
 
 pub put-exponent-spec : {M : Type 1} → statement M
 put-exponent-spec =

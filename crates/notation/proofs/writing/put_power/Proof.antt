@@ -4,8 +4,10 @@ use mathlib.Core.Path.{sym}
 use mathlib.Core.Bool.{cond}
 use native.Mathlib.Omega.{arith}
 use lib.ListN.{length-set}
+use borrow.Author.Needs.{needs}
 use Rattle.lists.proofs.Writes.{write-then, wrote-same, wrote-none}
 use Rattle.group.specs.Forms.{bSide, aSide}
+use Rattle.printing.proofs.Fitting.{put-behind}
 use Rattle.notation.proofs.Texts.{further-none, further-one, further-length, two-wrote, two-length}
 use Rattle.notation.proofs.writing.put_power.Statement.{statement}
 use Rattle.notation.proofs.writing.put_power.Tie as tie
@@ -38,13 +40,7 @@ add-put-decimal c =
     omega (arith, further-length (cond (args .inverse) aSide bSide) (args .k) (args .e) (omega arith))
 
 put-decimal-requires : tie.Need-put-decimal-requires
-put-decimal-requires c κs =
-    let args = c .before .before .before .args in
-    omega (
-      arith,
-      further-length (cond (args .inverse) aSide bSide) (args .k) (args .e) (omega arith),
-      two-length (args .out .now) (args .at) 32 120,
-    )
+put-decimal-requires c κs = search needs
 
 put-exponent-requires : tie.Need-put-exponent-requires
 put-exponent-requires c κs =
@@ -52,12 +48,16 @@ put-exponent-requires c κs =
     let branch = put .before .before in
     let entry = branch .before .before in
     let args = entry .args in
+    let side = cond (args .inverse) aSide bSide in
+    let size = further-length side (args .k) (args .e) (omega (arith, branch .if1 .left)) in
+    let signs = two-wrote (args .out .now) (args .at) 32 120 in
+    let digits = put-behind (omega (arith, entry .pre, size)) signs (put .put-decimal .ensures) in
     omega (
       arith,
-      further-length (cond (args .inverse) aSide bSide) (args .k) (args .e) (omega (arith, branch .if1 .left)),
+      size,
       two-length (args .out .now) (args .at) 32 120,
       entry .pre,
-      put .put-decimal .ensures,
+      digits .ends,
       put .put-decimal .kept,
     )
 
@@ -78,10 +78,14 @@ returns-2 c =
     let put-last = c .before .before in
     let put = put-last .before .before .before .before in
     let branch = put .before .before in
-    let args = branch .before .before .args in
-    wrote-same (sym (further-one _ (args .k) (args .e) (omega (arith, branch .if1 .left))))
-    (write-then (write-then (two-wrote (args .out .now) (args .at) 32 120) (put .put-decimal .ensures))
-    (put-last .put-exponent .ensures))
+    let entry = branch .before .before in
+    let args = entry .args in
+    let side = cond (args .inverse) aSide bSide in
+    let size = further-length side (args .k) (args .e) (omega (arith, branch .if1 .left)) in
+    let signs = two-wrote (args .out .now) (args .at) 32 120 in
+    let digits = put-behind (omega (arith, entry .pre, size)) signs (put .put-decimal .ensures) in
+    wrote-same (sym (further-one side (args .k) (args .e) (omega (arith, branch .if1 .left))))
+    (write-then (write-then signs digits) (put-last .put-exponent .ensures))
 
 pub put-power-spec : {M : Type 1} → statement M
 put-power-spec =

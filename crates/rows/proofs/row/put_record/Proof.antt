@@ -2,6 +2,7 @@
 use native.Mathlib.Omega.{arith}
 use borrow.Author.Needs.{needs}
 use Rattle.lists.proofs.Writes.{write-then, wrote-same}
+use Rattle.printing.proofs.Fitting.{put-behind}
 use Rattle.rows.proofs.Hex.{hex-length}
 use Rattle.rows.proofs.Fields.{numbers-end, record-row}
 use Rattle.rows.proofs.row.put_record.Statement.{statement}
@@ -27,21 +28,7 @@ slice-aggregate-put : tie.Need-slice-aggregate-put
 slice-aggregate-put c = search needs
 
 put-requires : tie.Need-put-requires
-put-requires c κs =
-    let hex = c .before .before .before .before in
-    let first = hex .before .before .before .before in
-    let entry = first .before .before .before .before in
-    let x = entry .args in
-    omega (
-      arith,
-      entry .pre,
-      first .put-numbers .kept,
-      numbers-end (x .k) (x .l) (x .m) (x .n) (omega arith) (omega arith) (omega arith) (omega arith)
-          (first .put-numbers .ensures),
-      hex .put-hex .kept,
-      hex .put-hex .ensures .ends,
-      hex-length (x .«record» .now),
-    )
+put-requires c κs = search needs
 
 same-length : tie.Need-same-length
 same-length c = search needs
@@ -51,9 +38,14 @@ returns c =
     let put = c .before .before in
     let hex = put .before .before .before .before .before in
     let first = hex .before .before .before .before in
-    let x = first .before .before .before .before .args in
+    let entry = first .before .before .before .before in
+    let x = entry .args in
+    let numbers = first .put-numbers .ensures in
+    let end = numbers-end (x .k) (x .l) (x .m) (x .n) (omega arith) (omega arith) (omega arith) (omega arith) numbers in
+    let last = put-behind (omega (arith, entry .pre, first .put-numbers .kept, end, hex-length (x .«record» .now)))
+    (hex .put-hex .ensures) (put .put .ensures) in
     wrote-same (record-row (x .k) (x .l) (x .m) (x .n) (x .«record» .now))
-    (write-then (first .put-numbers .ensures) (write-then (hex .put-hex .ensures) (put .put .ensures)))
+    (write-then numbers (write-then (hex .put-hex .ensures) last))
 
 pub put-record-spec : {M : Type 1} → statement M
 put-record-spec =

@@ -8,7 +8,7 @@ use Rattle.lines.specs.Lines.{lineFeed}
 use Rattle.refusals.specs.Refusals.{numberOf}
 use Rattle.numerals.specs.Decimals.{decimal}
 use Rattle.rows.specs.inside.Steps.{numberThen}
-use Rattle.rows.proofs.Fields.{write-field, number-end}
+use Rattle.rows.proofs.Fields.{write-field, behind-number, number-end}
 use Rattle.rows.proofs.row.put_refusal.Statement.{statement}
 use Rattle.rows.proofs.row.put_refusal.Tie as tie
 
@@ -19,15 +19,7 @@ slice-aggregate-put : tie.Need-slice-aggregate-put
 slice-aggregate-put c = search needs
 
 put-requires : tie.Need-put-requires
-put-requires c κs =
-    let one = c .before .before .before .before in
-    let entry = one .before .before .before in
-    omega (
-      arith,
-      entry .pre,
-      one .put-number .kept,
-      number-end (entry .args .number) 32 (omega arith) (one .put-number .ensures),
-    )
+put-requires c κs = search needs
 
 number-requires : tie.Need-number-requires
 number-requires c κs = search needs
@@ -40,12 +32,14 @@ put-number-requires-2 c κs =
     let word = c .before .before .before .before in
     let one = word .before .before .before .before .before in
     let entry = one .before .before .before in
+    let spelled = behind-number (entry .args .number) 32 (omega arith) (omega (arith, entry .pre))
+    (one .put-number .ensures) (word .put .ensures) in
     omega (
       arith,
       entry .pre,
       one .put-number .kept,
       word .put .kept,
-      word .put .ensures .ends,
+      spelled .ends,
       number-end (entry .args .number) 32 (omega arith) (one .put-number .ensures),
     )
 
@@ -58,12 +52,14 @@ put-number-requires-3 c κs =
     let word = two .before .before .before .before .before in
     let one = word .before .before .before .before .before in
     let entry = one .before .before .before in
+    let spelled = behind-number (entry .args .number) 32 (omega arith) (omega (arith, entry .pre))
+    (one .put-number .ensures) (word .put .ensures) in
     omega (
       arith,
       entry .pre,
       one .put-number .kept,
       word .put .kept,
-      word .put .ensures .ends,
+      spelled .ends,
       two .put-number2 .kept,
       number-end (entry .args .number) 32 (omega arith) (one .put-number .ensures),
       number-end _ 32 (omega arith) (two .put-number2 .ensures),
@@ -78,13 +74,15 @@ returns c =
     let two = three .before .before .before .before .before in
     let word = two .before .before .before .before .before in
     let one = word .before .before .before .before .before in
-    let r = one .before .before .before .args .r in
+    let entry = one .before .before .before in
+    let spelled = behind-number (entry .args .number) 32 (omega arith) (omega (arith, entry .pre))
+    (one .put-number .ensures) (word .put .ensures) in
     let number = wrote-same (ap (λ (n : ℕ). numberThen n 32) (two .before .before .number .ensures))
     (two .put-number2 .ensures) in
     let place = wrote-same (ap (λ (n : ℕ). numberThen n lineFeed) (three .before .before .place .ensures))
     (three .put-number3 .ensures) in
-    write-field (decimal (one .before .before .before .args .number)) 32 _ (one .put-number .ensures)
-    (write-then (word .put .ensures) (write-field (decimal (numberOf r)) 32 _ number place))
+    write-field (decimal (entry .args .number)) 32 _ (one .put-number .ensures)
+    (write-then spelled (write-field (decimal (numberOf (entry .args .r))) 32 _ number place))
 
 pub put-refusal-spec : {M : Type 1} → statement M
 put-refusal-spec =

@@ -6,7 +6,7 @@ use native.Mathlib.Omega.{arith}
 use lib.ListN.{length, length-set, getD}
 use Rattle.io.specs.Digits.{glyph}
 use Rattle.rows.specs.Text.{hexOf}
-use Rattle.rows.proofs.Loops.{Passing, pass-start, pass-length, pass-more, pass-done}
+use Rattle.printing.proofs.Loops.{Passing, pass-start, pass-length, pass-more, pass-done}
 use Rattle.rows.proofs.Hex.{hex-room, hex-wrote}
 use Rattle.rows.proofs.text.put_hex.Statement.{statement}
 use Rattle.rows.proofs.text.put_hex.Tie as tie

@@ -1,12 +1,9 @@
 -- `put_decimal` meets its contract: the digits that are found are those of the number. Assumes nothing.
-use mathlib.Core.Path.{ap}
-use native.Mathlib.Omega.{arith}
-use lib.ListN.{length}
 use borrow.Author.Needs.{needs}
-use Rattle.lists.proofs.Writes.{wrote-same}
 use Rattle.numerals.proofs.Decimals.{digits-found}
-use Rattle.notation.proofs.writing.put_decimal.Statement.{statement}
-use Rattle.notation.proofs.writing.put_decimal.Tie as tie
+use Rattle.printing.proofs.Fitting.{put-same}
+use Rattle.printing.proofs.put_decimal.Statement.{statement}
+use Rattle.printing.proofs.put_decimal.Tie as tie
 
 decimal-requires : tie.Need-decimal-requires
 decimal-requires c κs = search needs
@@ -18,15 +15,7 @@ slice-aggregate-put : tie.Need-slice-aggregate-put
 slice-aggregate-put c = search needs
 
 put-requires : tie.Need-put-requires
-put-requires c κs =
-    let found = c .before .before in
-    let made = found .decimal .ensures .1 in
-    let entry = found .before .before .before in
-    omega (
-      arith,
-      entry .pre,
-      ap length (digits-found (entry .args .n) (found .decimal .result) (made .0) (made .1)),
-    )
+put-requires c κs = search needs
 
 same-length : tie.Need-same-length
 same-length c = search needs
@@ -36,7 +25,7 @@ returns c =
     let found = c .before .before .before .before .before in
     let made = found .decimal .ensures .1 in
     let n = found .before .before .before .args .n in
-    wrote-same (digits-found n (found .decimal .result) (made .0) (made .1)) (c .before .before .put .ensures)
+    put-same (digits-found n (found .decimal .result) (made .0) (made .1)) (c .before .before .put .ensures)
 
 pub put-decimal-spec : {M : Type 1} → statement M
 put-decimal-spec =
