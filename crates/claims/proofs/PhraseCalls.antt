@@ -10,26 +10,25 @@ use lib.ListN.{length, take, drop}
 use lib.Seq.{sets}
 use Rattle.lists.proofs.Writes.{sets-front, sets-beyond}
 use Rattle.group.specs.Limits.{limit}
-use Rattle.group.specs.Forms.{Form, exponentSum, levels}
+use Rattle.group.specs.Forms.{Form, levels}
 use Rattle.group.specs.Powers.{formPowers, productLetters, exponentSizes}
 use Rattle.group.proofs.Powers.{powers-again, form-sizes}
 use Rattle.group.proofs.Reduced.{Canonical}
-use Rattle.group.proofs.Sizes.{trimmed-levels}
 use Rattle.refusals.specs.Outcomes.{Outcome, accepted, refused, after, valued, replyOf}
 use Rattle.refusals.specs.Placing.{fitting}
 use Rattle.refusals.specs.declared.Reply.{Reply}
-use Rattle.refusals.proofs.Outcomes.{accepted-same, accepted-refused, refused-number, refused-place, valued-accepted}
+use Rattle.refusals.proofs.Outcomes.{accepted-same, accepted-refused, refused-number, refused-place}
 use Rattle.refusals.proofs.Placing.{fit-short, fit-long}
 use Rattle.fields.specs.Fields.{Bytes}
 use Rattle.records.specs.Format.{encode, Within}
 use Rattle.records.specs.Reading.{decode}
 use Rattle.records.proofs.Accepted.{decode-form, decode-accepts, record-decoded, decoded↔record}
-use Rattle.records.proofs.ClearedTables.{within-behind}
+use Rattle.records.proofs.ClearedTables.{within-levels}
 use Rattle.forest.specs.Filling.{productForm}
 use Rattle.words.specs.Recording.{Memory}
 use Rattle.notation.specs.Contracts.{formText, textIn, TextRecorded, TextWritten}
 use Rattle.notation.proofs.FormRanges.{form-in-range}
-use Rattle.claims.specs.Refusals.{ShortTables, ShortRecord, NoTextRefusal, ShortText}
+use Rattle.claims.specs.Refusals.{ShortTables, ShortRecord, NoTextRefusal}
 use Rattle.claims.specs.Refusals.{PhraseRefusal, unphrased, shortText}
 use Rattle.claims.specs.Answers.{IsRefused, Refuses}
 use Rattle.claims.specs.Given.{TextOfRecord}
@@ -144,12 +143,7 @@ phrase-gives {s} h a =
 -- A form that a record is read as, written in powers, is the form of their product.
 module _ (f : Form) (c : Canonical f) (w : Within f) where
   low-form : levels (productForm (formPowers f)) ≤ suc limit
-  low-form =
-      omega (
-        arith,
-        ap levels (powers-again f c),
-        trimmed-levels f (suc limit) (c .trimmed) (λ s i h. within-behind f w s i (omega (arith, h))),
-      )
+  low-form = omega (arith, ap levels (powers-again f c), within-levels f c w)
 
   small-form : exponentSizes (formPowers f) ≤ limit
   small-form = omega (arith, form-sizes f, w .sum)

@@ -12,7 +12,7 @@ use Rattle.group.specs.Limits.{limit}
 use Rattle.group.specs.Forms.{bSide, aSide, levels}
 use Rattle.group.specs.Powers.{SignedPower, productLetters, exponentSizes}
 use Rattle.group.proofs.Powers.{product-sum}
-use Rattle.refusals.specs.Outcomes.{Outcome, accepted, refused, after, valued, replyOf}
+use Rattle.refusals.specs.Outcomes.{Outcome, accepted, refused, after, replyOf}
 use Rattle.refusals.specs.declared.Reply.{Reply}
 use Rattle.refusals.proofs.Outcomes.{accepted-refused, accepted-same, valued-accepted}
 use Rattle.records.specs.Format.{encode, bufferSize}

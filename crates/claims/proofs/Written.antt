@@ -15,7 +15,7 @@ use Rattle.lists.specs.Tables.{values, filled}
 use Rattle.lists.proofs.Tables.{values-length, filled-at}
 use Rattle.group.specs.Letters.{Word}
 use Rattle.group.specs.Chains.{Joined}
-use Rattle.group.specs.Forms.{Side, bSide, aSide, exponent}
+use Rattle.group.specs.Forms.{bSide, aSide, exponent}
 use Rattle.group.specs.Products.{formOf}
 use Rattle.group.proofs.Reduced.{form-canonical, form-reduced, form-trimmed}
 use Rattle.group.proofs.Theorems.{form-map, forms↔joined}

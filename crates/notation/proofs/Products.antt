@@ -9,7 +9,7 @@ use lib.Dec.{ltb}
 use lib.ListN.{length, take}
 use lib.Seq.{sets}
 use borrow.Author.Tests.{lt-ltb, le-ltb, ltb-false}
-use Rattle.lists.specs.Tables.{values, filled}
+use Rattle.lists.specs.Tables.{values}
 use Rattle.lists.proofs.Tables.{values-length, filled-front}
 use Rattle.group.specs.Limits.{limit}
 use Rattle.group.specs.Forms.{Side, bSide, aSide, exponent, levels}
@@ -31,7 +31,6 @@ use Rattle.encoding.specs.inside.Contracts.{bytesWritten, encodeTables, Encoded
 use Rattle.encoding.proofs.WriteAnswers.{bytes-written}
 use Rattle.forest.specs.Filling.{productForm, tablesFor, productTable}
 use Rattle.words.specs.Recording.{Memory, memory}
-use Rattle.notation.specs.Contracts.{roomFor}
 use Rattle.notation.specs.inside.Products.{FilledBy, ShortRoom, judgedProduct, ProductRecorded}
 
 -- Powers that are accepted beside tables.

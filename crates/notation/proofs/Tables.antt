@@ -10,7 +10,8 @@ use Rattle.group.specs.Forms.{bSide, aSide, Form, empty, level, exponent, level
 use Rattle.group.specs.Powers.{SignedPower, putSigned, risingPowers, fallingPowers, formPowers}
 use Rattle.tokens.specs.Texts.{furtherText}
 use Rattle.notation.specs.inside.Tables.{risingIn, fallingIn, powersOf}
-use Rattle.notation.proofs.Texts.{put-append, further-append, further-put, put-size, Next}
+use Rattle.tokens.proofs.Texts.{further-append}
+use Rattle.notation.proofs.Texts.{put-append, further-put, put-size, Next}
 
 -- The first power of those from index k on.
 pub rising-next : (b : List ℕ) (k : ℕ) → k < length b

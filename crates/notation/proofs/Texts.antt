@@ -2,7 +2,7 @@
 -- most, and what is left to write. Assumes nothing.
 use mathlib.Core.Path.{_≡_, refl, sym, ap, _∙_}
 use mathlib.Core.Bool.{Bool, true, false, cond}
-use mathlib.Core.List.{List, [], _∷_, _++_, append-assoc, append-nil}
+use mathlib.Core.List.{List, [], _∷_, _++_, append-nil}
 use Prim.Native.Nat.{ℕ, zero, suc, _+_, _*_, _<_, _≤_}
 use native.Mathlib.Numerals.{add-one}
 use native.Mathlib.Omega.{arith}
@@ -17,13 +17,7 @@ use Rattle.group.specs.Forms.{Side, bSide, aSide}
 use Rattle.group.specs.Powers.{SignedPower, signedPower, putSigned}
 use Rattle.tokens.specs.Tokens.{xSign, powerSign, minusSign, space, exponentText, tokenText}
 use Rattle.tokens.specs.Texts.{furtherText, textOf}
-
--- Powers behind powers.
-pub further-append : (ps qs : List SignedPower) → furtherText (ps ++ qs) ≡ furtherText ps ++ furtherText qs
-further-append [] qs = refl
-further-append (p ∷ ps) qs =
-    ap (λ (t : List ℕ). space ∷ (tokenText p ++ t)) (further-append ps qs)
-    ∙ ap (λ (t : List ℕ). space ∷ t) (sym (append-assoc (tokenText p) (furtherText ps) (furtherText qs)))
+use Rattle.tokens.proofs.Texts.{further-append}
 
 -- The text is what stands behind the first space.
 pub text-further : (ps : List SignedPower) → textOf ps ≡ drop 1 (furtherText ps)

@@ -17,20 +17,6 @@ further-append (p ∷ ps) qs =
     ap (λ (t : List ℕ). space ∷ (tokenText p ++ t)) (further-append ps qs)
     ∙ ap (λ (t : List ℕ). space ∷ t) (sym (append-assoc (tokenText p) (furtherText ps) (furtherText qs)))
 
--- A power at least, and powers behind.
-pub text-append : (p : SignedPower) (ps qs : List SignedPower)
-    → textOf ((p ∷ ps) ++ qs) ≡ textOf (p ∷ ps) ++ furtherText qs
-text-append p ps qs =
-    ap (λ (t : List ℕ). tokenText p ++ t) (further-append ps qs)
-    ∙ sym (append-assoc (tokenText p) (furtherText ps) (furtherText qs))
-
--- A power at least, and one more.
-pub text-more : (p q : SignedPower) (ps : List SignedPower)
-    → textOf ((p ∷ ps) ++ (q ∷ [])) ≡ textOf (p ∷ ps) ++ (space ∷ tokenText q)
-text-more p q ps =
-    text-append p ps (q ∷ [])
-    ∙ ap (λ (t : List ℕ). textOf (p ∷ ps) ++ (space ∷ t)) (append-nil (tokenText q))
-
 -- Nothing is left behind a token, or a space is next.
 pub further-ends : (ps : List SignedPower) → AtEnd (furtherText ps)
 further-ends [] = tt

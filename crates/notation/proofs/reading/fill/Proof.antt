@@ -1,6 +1,5 @@
 -- `fill` meets its contract: the engine takes the powers, with scratch of its sizes. Assumes nothing.
-use mathlib.Core.Path.{_≡_, sym, subst}
-use Rattle.refusals.specs.declared.Reply.{Reply}
+use mathlib.Core.Path.{sym, subst}
 use borrow.Author.Needs.{needs}
 use Rattle.notation.specs.inside.Products.{FilledBy}
 use Rattle.notation.proofs.HeldPowers.{engine-fills}
