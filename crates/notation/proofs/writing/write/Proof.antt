@@ -5,7 +5,6 @@ use borrow.Author.Needs.{needs}
 use Rattle.lists.proofs.Writes.{write-then, wrote-same}
 use Rattle.notation.specs.inside.Tables.{risingIn, fallingIn, powersOf}
 use Rattle.tokens.proofs.Texts.{further-append}
-use Rattle.notation.proofs.Texts.{}
 use Rattle.notation.proofs.Tables.{both-length}
 use Rattle.notation.proofs.Answers.{own-room, powers-placed}
 use Rattle.notation.proofs.writing.write.Statement.{statement}
