@@ -13,7 +13,8 @@
 static uint8_t word[LETTERS], record1[THOMPSON_RECORD(LETTERS)], record2[THOMPSON_RECORD(LETTERS)];
 static uint8_t t_minus[THOMPSON_SHAPE(THOMPSON_CARETS)], t_plus[THOMPSON_SHAPE(THOMPSON_CARETS)];
 static uint16_t b1[LETTERS + 1], a1[LETTERS + 1], b2[LETTERS + 1], a2[LETTERS + 1];
-static size_t length;
+static uint8_t text[THOMPSON_TEXT(LETTERS)];
+static size_t length, text_length;
 static thompson_answer answer;
 
 static void *nothing(void *p) { return p; }
@@ -36,6 +37,21 @@ static void *same_element(void *p) {
 
 static void *record_to_word(void *p) {
     answer = thompson_record_to_word(record1, length, word, LETTERS);
+    return p;
+}
+
+static void *text_to_record(void *p) {
+    answer = thompson_text_to_record(text, text_length, b1, LETTERS + 1, a1, LETTERS + 1, record1, sizeof record1);
+    return p;
+}
+
+static void *short_text_to_record(void *p) {
+    answer = thompson_text_to_record(text, text_length, b1, LETTERS + 1, a1, LETTERS + 1, record1, 0);
+    return p;
+}
+
+static void *record_to_text(void *p) {
+    answer = thompson_record_to_text(record1, length, text, sizeof text);
     return p;
 }
 
@@ -147,6 +163,17 @@ int main(void) {
     put_field(2, 0, 0);
     printf("record to word         %zu bytes more\n", depth(record_to_word) - none);
     if (answer.value != LETTERS) printf("%d letters\n", (int)answer.value);
+    length = 0;
+    static int powers[LETTERS][2];
+    for (int i = 0; i < LETTERS; i++) powers[i][0] = i + 1, powers[i][1] = 1;
+    put_field(1, 0, 0);
+    put_field(2, LETTERS, (const int(*)[2])powers);
+    printf("record to text         %zu bytes more\n", depth(record_to_text) - none);
+    text_length = answer.value;
+    printf("text to record         %zu bytes more\n", depth(text_to_record) - none);
+    if (answer.refusal != 0) printf("refused with %d\n", (int)answer.refusal);
+    printf("  its buffer too short %zu bytes more\n", depth(short_text_to_record) - none);
+    if (answer.refusal != 7) printf("refused with %d\n", (int)answer.refusal);
     tree_calls("record to tree pair", record_to_tree_pair, none);
     tree_calls("record to length", record_to_length, none);
     return 0;
