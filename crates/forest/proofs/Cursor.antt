@@ -161,6 +161,22 @@ seek-backward i j c h d =
     ∙ ap (λ (n : ℕ). goBack n c) e
     ∙ sym (seek-back j c (omega arith))
 
+-- A move back in two parts.
+back-more : (m n l : ℕ) (c : Cursor) → l ≡ n + m → goBack m (goBack n c) ≡ goBack l c
+back-more m zero l c e =
+    let g : m ≡ l = omega arith in
+    ap (λ (j : ℕ). goBack j c) g
+back-more m (suc n) zero c e = absurd (omega arith)
+back-more m (suc n) (suc l) c e = back-more m n l (backward c) (omega arith)
+
+pub seek-farther : (i k : ℕ) (c : Cursor) → i ≤ place c → k ≤ i → seek k (seek i c) ≡ seek k c
+seek-farther i k c h l =
+    let here = seek-place i c in
+    seek-back k (seek i c) (omega arith)
+    ∙ ap (goBack (place (seek i c) - k)) (seek-back i c h)
+    ∙ back-more (place (seek i c) - k) (place c - i) (place c - k) c (omega arith)
+    ∙ sym (seek-back k c (omega arith))
+
 back-all : (ls ts : List Bush) → goBack (length ls) (cursor ls ts) ≡ cursor [] (rewind ls ts)
 back-all [] ts = refl
 back-all (t ∷ ls) ts = back-all ls (putBush t ts)

@@ -67,7 +67,7 @@ pub fn descend(lefts: &[u16], rights: &[u16], stack: &mut [u16], bush: u16, low:
 }
 
 // The entries from `low` on, up to `high`, become 0.
-fn zero_rest(table: &mut [u16], low: usize, high: usize)
+pub fn zero_rest(table: &mut [u16], low: usize, high: usize)
     requires { ⌜ (low ≤ high) × (high ≤ length (now table)) ⌝ }
     ensures { λ _. ⌜ ZerosPut (now (table .entry)) low high (now (table .exit)) ⌝ }
 {

@@ -1,15 +1,46 @@
 // A row of bushes with a cursor, for powers of any generator. The bushes in front of the cursor stand on `before`, the
 // nearest on top, so that its height is the cursor's place; the bushes from the cursor on stand on `stack`.
-ghost use Prim.Native.Nat.{_≤_};
+ghost use mathlib.Core.Path.{_≡_};
+ghost use Prim.Native.Nat.{_+_, _≤_, _<_};
+ghost use lib.ListN.{length};
 ghost use Rattle.group.specs.Powers.{sideOf};
-ghost use Rattle.forest.specs.inside.Seeking.{Seekable, Sought, TurnReady, Turned, PowerRoom, PowerPut};
+ghost use Rattle.forest.specs.inside.Seeking.{Seekable, Sought, MovedOn, Skipped, Storing};
+ghost use Rattle.forest.specs.inside.Seeking.{TurnReady, Turned, PowerRoom, PowerPut};
 ghost use Rattle.forest.specs.inside.Seeking.{PowersReady, PowersPiled};
 use crate::cells::join;
 use crate::cells::part;
 use crate::cells::pop;
 use crate::cells::push;
 use crate::cells::wide;
+use crate::leaves::zero_rest;
 use refusals::LIMIT;
+
+// The place, up to k, that the bushes of `stack` reach from the cursor on.
+fn reach(front: usize, height: usize, k: usize) -> usize
+    requires { ⌜ front ≤ k ⌝ }
+    ensures { λ r. ⌜ (front ≤ r) × (r ≤ k) × (r ≤ front + height) × (r < k → r ≡ front + height) ⌝ }
+{
+    if height < k - front {
+        return front + height;
+    }
+    k
+}
+
+// The cursor moved on to place `end`, no further than the bushes of `stack` reach. The height of `stack` that is left.
+fn move_on(before: &mut [u16], stack: &[u16], front: usize, height: usize, end: usize) -> usize
+    requires { ⌜ (front ≤ end) × (end ≤ front + height) × (end ≤ length (now before))
+        × (height ≤ length (now stack)) ⌝ }
+    ensures { λ r. ⌜ MovedOn (now (before .entry)) (now (stack .entry)) front height end (now (before .exit)) r ⌝ }
+{
+    let mut i = front;
+    let mut h = height;
+    while i < end {
+        h -= 1;
+        before[i] = stack[h];
+        i += 1;
+    }
+    h
+}
 
 // The cursor moved on to place k; behind the last bush stand tips of exponent 0. The height of `stack` that is left.
 fn go_on(before: &mut [u16], stack: &[u16], front: usize, height: usize, k: usize) -> usize
@@ -17,13 +48,45 @@ fn go_on(before: &mut [u16], stack: &[u16], front: usize, height: usize, k: usiz
     ensures { λ r. ⌜ Sought (now (before .entry)) (now (stack .entry)) front height k (now (before .exit))
         (now (stack .entry)) r ⌝ }
 {
+    let end = reach(front, height, k);
+    let left = move_on(before, stack, front, height, end);
+    zero_rest(before, end, k);
+    left
+}
+
+// The place, k or behind it, that the cursor is moved back to with nothing stored: with no bush behind them, tips of
+// exponent 0 are not.
+fn skip_zeros(before: &[u16], front: usize, height: usize, k: usize) -> usize
+    requires { ⌜ (k ≤ front) × (front ≤ length (now before)) ⌝ }
+    ensures { λ r. ⌜ Skipped (now (before .entry)) front height k r ⌝ }
+{
+    let mut i = front;
+    if height != 0 {
+        return i;
+    }
+    while k < i {
+        let next = i - 1;
+        if before[next] != 0 {
+            return i;
+        }
+        i = next;
+    }
+    i
+}
+
+// The cursor moved back to place k, each bush stored. The height of `stack` that is reached.
+fn move_back(before: &[u16], stack: &mut [u16], front: usize, height: usize, k: usize) -> usize
+    requires { ⌜ (k ≤ front) × (front ≤ length (now before)) × (front + height < length (now stack))
+        × Storing (now before) front height k ⌝ }
+    ensures { λ r. ⌜ Sought (now (before .entry)) (now (stack .entry)) front height k (now (before .entry))
+        (now (stack .exit)) r ⌝ }
+{
     let mut i = front;
     let mut h = height;
-    while i < k {
-        let p = pop(stack, h);
-        before[i] = p.bush;
-        h = p.height;
-        i += 1;
+    while k < i {
+        i -= 1;
+        stack[h] = before[i];
+        h += 1;
     }
     h
 }
@@ -34,13 +97,8 @@ fn go_back(before: &[u16], stack: &mut [u16], front: usize, height: usize, k: us
     ensures { λ r. ⌜ Sought (now (before .entry)) (now (stack .entry)) front height k (now (before .entry))
         (now (stack .exit)) r ⌝ }
 {
-    let mut i = front;
-    let mut h = height;
-    while k < i {
-        i -= 1;
-        h = push(stack, h, before[i]);
-    }
-    h
+    let i = skip_zeros(before, front, height, k);
+    move_back(before, stack, i, height, k)
 }
 
 // The cursor moved to place k. The height of `stack` that is reached.

@@ -2,8 +2,8 @@
 -- `before`, those from it on on `stack`. Assumes nothing.
 use mathlib.Core.Path.{_≡_}
 use mathlib.Core.List.{List}
-use Prim.Native.Nat.{ℕ, zero, suc, _+_, _≤_, _<_}
-use lib.ListN.{length}
+use Prim.Native.Nat.{ℕ, zero, suc, _+_, _-_, _≤_, _<_}
+use lib.ListN.{getD, length}
 use Rattle.group.specs.Forms.{Side, bSide, aSide}
 use Rattle.group.specs.Powers.{exponentSizes, powersIn}
 use Rattle.group.specs.Limits.{limit}
@@ -44,6 +44,22 @@ Sought before stack front height k before′ stack′ height′ =
     (lefts rights : List ℕ) (used : ℕ) (c : Cursor)
     → Stood lefts rights used before stack front height c
     → Stood lefts rights used before′ stack′ k height′ (seek k c)
+
+-- The cursor was moved on to place `end` by bushes of the stack alone.
+pub record MovedOn (before stack : List ℕ) (front height end : ℕ) (before′ : List ℕ) (height′ : ℕ) : Type 0 where
+  pub moves : Sought before stack front height end before′ stack height′
+  pub passed : end + height′ ≡ front + height
+
+-- On the way back to place k the first bush is stored: it is no tip of exponent 0, or there is a bush behind it.
+abbrev pub Storing : (before : List ℕ) (front height k : ℕ) → Type 0
+Storing before front height k = height ≡ 0 → k < front → getD before (front - 1) 0 ≡ 0 → ⊥
+
+-- The cursor was moved back to place i with nothing stored, and from there on to place k each bush is.
+pub record Skipped (before : List ℕ) (front height k i : ℕ) : Type 0 where
+  pub low : k ≤ i
+  pub high : i ≤ front
+  pub moves : (stack : List ℕ) → Sought before stack front height i before stack height
+  pub storing : Storing before i height k
 
 -- A bush can be parted e times, and no exponent comes above the limit; joining raises none.
 abbrev pub Raises : Side → ℕ → Bush → Type 0

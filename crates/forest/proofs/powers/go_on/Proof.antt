@@ -1,71 +1,32 @@
--- `powers::go_on` meets its contract: the loop of `Going`.
+-- `powers::go_on` meets its contract: bushes of the stack passed, then zeros put.
 -- Assumes nothing.
-use Prim.Native.Nat.{_-_, _≤_}
-use native.Mathlib.Omega.{arith}
-use Rattle.forest.proofs.Seeking.{Going, going-starts, going-on, going-ends}
+use borrow.Author.Needs.{needs}
+use Rattle.forest.proofs.Seeking.{moved-zeros}
 use Rattle.forest.proofs.powers.go_on.Statement.{statement}
 use Rattle.forest.proofs.powers.go_on.Tie as tie
 
-abbrev Inv-loop : tie.InvT-loop
-Inv-loop before₀ stack front height k i₀ h₀ before i h =
-    Going before₀ stack front height k before stack i h × (front ≤ i) × (i ≤ k)
+reach-requires : tie.Need-reach-requires
+reach-requires c κs = search needs
 
-abbrev μ-loop : tie.MeasureT-loop
-μ-loop before₀ stack front height k i₀ h₀ before i h = k - i
+move-on-requires : tie.Need-move-on-requires
+move-on-requires c κs = search needs
 
-loop-holds : tie.Need-loop-holds Inv-loop μ-loop
-loop-holds c =
-    let pre = c .before .before .pre in
-    (going-starts (pre .0), omega arith, pre .1)
+zero-rest-requires : tie.Need-zero-rest-requires
+zero-rest-requires c κs = search needs
 
-pop-requires : tie.Need-pop-requires Inv-loop μ-loop
-pop-requires c κs =
-    let inv = c .before .loop .inv in
-    omega (arith, inv .0 .deep, inv .0 .asked .deep, inv .1)
+same-length : tie.Need-same-length
+same-length c = search needs
 
-mul-before : tie.Need-mul-before Inv-loop μ-loop
-mul-before c = omega arith
-
-slice-write-before : tie.Need-slice-write-before Inv-loop μ-loop
-slice-write-before c =
-    let inv = c .before .before .loop .inv in
-    omega (arith, inv .0 .before-same, inv .0 .asked .room)
-
-add-i : tie.Need-add-i Inv-loop μ-loop
-add-i c = omega arith
-
-loop-less : tie.Need-loop-less Inv-loop μ-loop
-loop-less c = omega arith
-
-loop-again : tie.Need-loop-again Inv-loop μ-loop
-loop-again c =
-    let p = c .pop in
-    let inv = c .before .before .loop .inv in (
-      going-on (inv .0) (p .result .bush) (p .result .height) (inv .1) (omega arith) (p .ensures),
-      omega (arith, inv .1),
-      omega arith,
-    )
-
-same-length : tie.Need-same-length Inv-loop μ-loop
-same-length c = c .before .loop .inv .0 .before-same
-
-returns : tie.Need-returns Inv-loop μ-loop
+returns : tie.Need-returns
 returns c =
-    let inv = c .before .loop .inv in
-    going-ends (inv .0) (omega (arith, inv .2))
+    let zeroed = c .before .before in
+    let moved = zeroed .before .before .before .before in
+    let reached = moved .before .before in
+    let start = reached .before .before .before in
+    let r = reached .reach .ensures in
+    moved-zeros (moved .move-on .ensures) (start .args .k) (zeroed .zero-rest .last .0) (r .0) (r .1)
+    (start .pre .0 .room) (moved .move-on .kept .0) (r .3) (zeroed .zero-rest .ensures)
 
 pub go-on-spec : {M : Type 1} → statement M
 go-on-spec =
-    tie.close
-    (tie.spec
-    Inv-loop
-    μ-loop
-    loop-holds
-    pop-requires
-    mul-before
-    slice-write-before
-    add-i
-    loop-less
-    loop-again
-    same-length
-    returns)
+    tie.close (tie.spec reach-requires move-on-requires zero-rest-requires same-length returns)
