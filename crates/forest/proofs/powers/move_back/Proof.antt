@@ -1,7 +1,7 @@
 -- `powers::move_back` meets its contract: a bush stored in a turn, by `Going`.
 -- Assumes nothing.
 use mathlib.Core.Path.{_≡_}
-use Prim.Native.Nat.{_+_, _-_, _≤_}
+use Prim.Native.Nat.{_+_, _≤_}
 use native.Mathlib.Omega.{arith}
 use Rattle.forest.proofs.Seeking.{Going, going-starts, going-pushed, going-ends}
 use Rattle.forest.proofs.powers.move_back.Statement.{statement}
