@@ -2,13 +2,14 @@
 -- Assumes nothing.
 use mathlib.Core.Path.{_≡_, refl, sym, ap, subst, _∙_}
 use mathlib.Core.Bool.{Bool, true, false, cond}
-use mathlib.Core.List.{List, _++_}
+use mathlib.Core.List.{List}
 use Prim.Native.Nat.{ℕ, zero, suc, _<_, _≤_}
 use native.Mathlib.Omega.{arith}
-use lib.ListN.{length, drop, getD}
+use lib.ListN.{length, getD}
 use borrow.Author.Tests.{lt-ltb, le-ltb}
 use Rattle.lists.specs.Tables.{filled}
-use Rattle.lists.proofs.Tables.{values-same}
+use Rattle.copying.specs.inside.Copying.{Copied}
+use Rattle.copying.proofs.Copying.{copied-values}
 use Rattle.group.specs.Forms.{Side, bSide, aSide, Form, exponent}
 use Rattle.group.specs.Limits.{limit}
 use Rattle.refusals.specs.declared.Verdict.{Verdict}
@@ -86,9 +87,9 @@ module _ (f : Form) (v : Verdict) (h : verdictOf v ≡ dropValue (findBreak f 0 
       find-form f (suc limit) 0 (g .0) (g .1)
 
 -- A table that is copied from one that shows the form holds its exponents.
-pub copy-filled : (f : Form) (d : Side) (from t : List ℕ)
+pub copied-shown : {from entry exit : List ℕ} (f : Form) (d : Side) → Copied from entry (suc limit) exit
+    → suc limit ≤ length from → suc limit ≤ length entry
     → ((i : ℕ) → i ≤ suc limit → getD from i 0 ≡ exponent d f i)
-    → filled (suc limit) (λ i. getD from i 0) t ≡ filled (suc limit) (exponent d f) t
-copy-filled f d from t shown =
-    ap (λ (l : List ℕ). l ++ drop (suc limit) t)
-    (values-same (suc limit) (λ i. getD from i 0) (exponent d f) (λ i lt. shown i (omega (arith, lt))))
+    → exit ≡ filled (suc limit) (exponent d f) entry
+copied-shown f d c long room shown =
+    copied-values (exponent d f) c long room (λ i lt. shown i (omega (arith, lt)))

@@ -1,9 +1,4 @@
 // The reduced form's clause, tested on two tables of exponents (01, 'The reduced form'), and tables handed over.
-ghost use mathlib.Core.Path.{_≡_};
-ghost use Prim.Native.Nat.{suc, _<_};
-ghost use lib.ListN.{length, getD};
-ghost use Rattle.lists.specs.Tables.{filled};
-ghost use Rattle.group.specs.Limits.{limit};
 ghost use Rattle.clause.specs.inside.Tables.{BreakFound, HandedOver};
 use refusals::LIMIT;
 use refusals::Refusal;
@@ -14,24 +9,15 @@ mod search;
 // The entries of a table that is tested: the clause at the limit looks at one index more.
 pub const TABLE: usize = LIMIT + 2;
 
+// The entries of a table that are handed over: one for each index up to the limit.
+const HANDED: usize = LIMIT + 1;
+
 // The smallest index that breaks the clause, if any: block by block, then one by one in the block that has it.
 pub fn check_tables(b: &[u16; TABLE], a: &[u16; TABLE]) -> Verdict
     ensures { λ r. ⌜ BreakFound (now (b .entry)) (now (a .entry)) r ⌝ }
 {
     let start = search::first_block(b, a);
     search::first_break(b, a, start)
-}
-
-// The entries up to the limit, from another table.
-fn copy_table(from: &[u16], table: &mut [u16])
-    requires { ⌜ (limit < length (now from)) × (limit < length (now table)) ⌝ }
-    ensures { λ _. ⌜ now (table .exit) ≡ filled (suc limit) (λ i. getD (now (from .entry)) i 0) (now (table .entry)) ⌝ }
-{
-    let mut i = 0;
-    while i <= LIMIT {
-        table[i] = from[i];
-        i += 1;
-    }
 }
 
 // The exponents in two tables, tested, and copied to the two that are lent: 5, then 6.
@@ -48,13 +34,13 @@ pub fn hand_over(
     let Verdict::Accepted = verdict else {
         return verdict;
     };
-    if b_table.len() < LIMIT + 1 {
+    if b_table.len() < HANDED {
         return Verdict::Refused(Refusal::ShortTable);
     }
-    if a_table.len() < LIMIT + 1 {
+    if a_table.len() < HANDED {
         return Verdict::Refused(Refusal::ShortTable);
     }
-    copy_table(b, b_table);
-    copy_table(a, a_table);
+    copying::copy_front(b, b_table, HANDED);
+    copying::copy_front(a, a_table, HANDED);
     Verdict::Accepted
 }

@@ -9,6 +9,8 @@ use lib.ListN.{length, getD}
 use borrow.Author.Tests.{lt-ltb, le-ltb}
 use Rattle.lists.specs.Tables.{filled}
 use Rattle.lists.proofs.Tables.{filled-at}
+use Rattle.copying.specs.inside.Copying.{Copied}
+use Rattle.copying.proofs.Copying.{copied-values}
 use Rattle.group.specs.Forms.{Side, bSide, aSide, exponent, levels}
 use Rattle.group.specs.Limits.{limit}
 use Rattle.group.specs.Powers.{SignedPower, productLetters, powersIn}
@@ -29,7 +31,7 @@ use Rattle.forest.specs.inside.Leaves.{TablesRead}
 use Rattle.forest.specs.inside.Handing.{FilledAs, Shown, PileReady, PileRead}
 use Rattle.forest.proofs.CursorBounds.{cursor-exponent}
 use Rattle.forest.proofs.HighTips.{low-levels, high-levels}
-use Rattle.forest.proofs.RowTips.{filled-same, tips-levels}
+use Rattle.forest.proofs.RowTips.{tips-levels}
 use Rattle.forest.proofs.Fitting.{powers-ready}
 
 -- What the read-off leaves shows the form.
@@ -97,20 +99,18 @@ module _ {n height : ℕ} {ob oa : List ℕ} (b a : List ℕ) (ps : List SignedP
 
     -- Both are copied.
     pub handed : {b′ a′ : List ℕ} → suc limit ≤ length b → suc limit ≤ length a
-        → b′ ≡ filled (suc limit) (λ i. getD ob i 0) b → a′ ≡ filled (suc limit) (λ i. getD oa i 0) a
+        → suc limit ≤ length ob → suc limit ≤ length oa → Copied ob b (suc limit) b′ → Copied oa a (suc limit) a′
         → FilledAs (tablesFor (length b) (length a) ps) b a b′ a′ (Filled n)
-    handed l m p q =
+    handed l m ol om p q =
         let o : tablesFor (length b) (length a) ps ≡ accepted ps =
         simp (low-enough, le-ltb (length b) (suc limit) l, le-ltb (length a) (suc limit) m) in
         record {
           result = sym (ap (λ (u : Outcome (List SignedPower)). dropValue u) o);
           b-table =
-              p
-              ∙ filled-same (suc limit) (λ i. getD ob i 0) (exponent bSide (productForm ps)) b (s .b-shown)
+              copied-values (exponent bSide (productForm ps)) p ol l (s .b-shown)
               ∙ sym (ap (λ (u : Outcome (List SignedPower)). productTable bSide u b) o);
           a-table =
-              q
-              ∙ filled-same (suc limit) (λ i. getD oa i 0) (exponent aSide (productForm ps)) a (s .a-shown)
+              copied-values (exponent aSide (productForm ps)) q om m (s .a-shown)
               ∙ sym (ap (λ (u : Outcome (List SignedPower)). productTable aSide u a) o);
           levels-read = λ k e qs h.
               let same : ps ≡ qs = accepted-same (sym o ∙ h) in

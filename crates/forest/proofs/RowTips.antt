@@ -1,13 +1,13 @@
 -- The tips of a row, read off: the tables get the exponents of the word's form, and all its levels are read.
 -- Assumes nothing.
-use mathlib.Core.Path.{_≡_, sym, _∙_, ap}
-use mathlib.Core.List.{List, _++_}
+use mathlib.Core.Path.{_≡_, sym, _∙_}
+use mathlib.Core.List.{List}
 use Prim.Native.Nat.{ℕ, suc, _+_, _≤_, _<_}
 use native.Mathlib.Omega.{arith}
 use native.Mathlib.Decide.{decLe}
-use lib.ListN.{length, drop}
+use lib.ListN.{length}
 use Rattle.lists.specs.Tables.{filled}
-use Rattle.lists.proofs.Tables.{values-same}
+use Rattle.lists.proofs.Tables.{filled-same}
 use Rattle.group.specs.Letters.{Word}
 use Rattle.group.specs.Forms.{Side, exponent, levels}
 use Rattle.group.specs.Products.{formOf}
@@ -42,10 +42,6 @@ row-ready {word} p f g =
       b-long = f;
       a-long = g;
     }
-
--- Tables filled by functions that agree on their entries are the same.
-pub filled-same : (n : ℕ) (f g : ℕ → ℕ) (t : List ℕ) → ((i : ℕ) → i < n → f i ≡ g i) → filled n f t ≡ filled n g t
-filled-same n f g t same = ap (λ (v : List ℕ). v ++ drop n t) (values-same n f g same)
 
 -- A table filled by the row's tips is filled by the form's exponents.
 pub row-table : (s : Side) (word t : List ℕ)

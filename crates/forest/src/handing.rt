@@ -1,10 +1,5 @@
 // The form of a product of powers, read off into tables of the engine's own and handed over to the tables that are
 // lent.
-ghost use mathlib.Core.Path.{_≡_};
-ghost use Prim.Native.Nat.{suc, _<_};
-ghost use lib.ListN.{length, getD};
-ghost use Rattle.lists.specs.Tables.{filled};
-ghost use Rattle.group.specs.Limits.{limit};
 ghost use Rattle.forest.specs.inside.Handing.{HandedOver, PileReady, PileRead};
 use crate::Filling;
 use crate::leaves::Levels;
@@ -14,18 +9,6 @@ use refusals::Refusal;
 
 // The entries of an own table: one for each index up to the limit.
 const TABLE: usize = LIMIT + 1;
-
-// The entries up to the limit, from an own table.
-fn copy_table(from: &[u16; TABLE], table: &mut [u16])
-    requires { ⌜ limit < length (now table) ⌝ }
-    ensures { λ _. ⌜ now (table .exit) ≡ filled (suc limit) (λ i. getD (now (from .entry)) i 0) (now (table .entry)) ⌝ }
-{
-    let mut i = 0;
-    while i < TABLE {
-        table[i] = from[i];
-        i += 1;
-    }
-}
 
 // The own tables copied to the lent ones: 11 where bushes are left behind the levels that were read, then 6.
 fn hand_over(
@@ -47,8 +30,8 @@ fn hand_over(
     if a_table.len() < TABLE {
         return Filling::Refused(Refusal::ShortTable);
     }
-    copy_table(b, b_table);
-    copy_table(a, a_table);
+    copying::copy_front(b, b_table, TABLE);
+    copying::copy_front(a, a_table, TABLE);
     Filling::Filled(levels.read)
 }
 

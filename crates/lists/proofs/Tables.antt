@@ -52,6 +52,10 @@ filled-beyond m f t i h = go (i - m) (omega arith)
         ∙ getD-drop m t k 0
         ∙ ap (λ (j : ℕ). getD t j 0) (sym e)
 
+-- Functions with the same values fill a table alike.
+pub filled-same : (m : ℕ) (f g : ℕ → ℕ) (t : List ℕ) → ((i : ℕ) → i < m → f i ≡ g i) → filled m f t ≡ filled m g t
+filled-same m f g t e = ap (λ (l : List ℕ). l ++ drop m t) (values-same m f g e)
+
 -- A table is filled where its entries are the values and all beyond are as they were.
 pub filled-by : (m : ℕ) (f : ℕ → ℕ) (t u : List ℕ) → m ≤ length t → length u ≡ length t
     → ((i : ℕ) → i < m → getD u i 0 ≡ f i) → ((i : ℕ) → m ≤ i → getD u i 0 ≡ getD t i 0) → u ≡ filled m f t

@@ -8,14 +8,16 @@ use native.Mathlib.Decide.{decLt}
 use lib.ListN.{length, take, getD, replicate, length-take, length-replicate, List·getD-eq-default}
 use lib.Seq.{getD-take}
 use Rattle.lists.specs.inside.Entries.{SameEntries}
+use Rattle.lists.specs.Tables.{filled}
 use Rattle.lists.proofs.Tables.{filled-length, filled-at, filled-beyond}
 use Rattle.lists.proofs.Totals.{same-replicate}
+use Rattle.copying.specs.inside.Copying.{Copied}
 use Rattle.trees.specs.Trees.{carets}
 use Rattle.trees.specs.Building.{needed, treeOf}
 use Rattle.trees.specs.inside.Counting.{maxCarets}
 use Rattle.trees.specs.Shapes.{shape, shapeSize}
 use Rattle.trees.specs.inside.Writing.{nodesFrom}
-use Rattle.trees.specs.inside.Steps.{NodesFit, ShapeFits, copiedFront}
+use Rattle.trees.specs.inside.Steps.{NodesFit, ShapeFits}
 use Rattle.trees.proofs.Rows.{tree-same}
 use Rattle.trees.proofs.Needed.{needed-holds, needed-same}
 use Rattle.trees.proofs.Built.{tree-carets}
@@ -58,6 +60,10 @@ module _ {e : List ℕ} {n : ℕ} {buffer : List ℕ} (f : ShapeFits e n buffer)
         early = omega arith;
       }
 
+-- The entries of a table, at the front of another.
+abbrev copiedFront : (e table : List ℕ) → List ℕ
+copiedFront e table = filled (length e) (λ i. getD e i 0) table
+
 -- A table at the front of zeros has the same entries.
 copied-same : (e : List ℕ) (m : ℕ) → SameEntries (copiedFront e (replicate m 0)) e
 copied-same e m i = go (decLt i (length e))
@@ -73,19 +79,31 @@ copied-same e m i = go (decLt i (length e))
         ≡⟨ sym (List·getD-eq-default e 0 (omega arith)) ⟩
         getD e i 0 ∎
 
--- It needs as many carets and has the same tree.
+-- The zeros that a table is copied to.
+abbrev zeros : List ℕ
+zeros = replicate maxCarets 0
+
+zeros-length : length zeros ≡ maxCarets
+zeros-length = length-replicate {A = ℕ} maxCarets 0
+
+-- The copy needs as many carets and has the same tree.
 module _ {e : List ℕ} {n : ℕ} {buffer : List ℕ} (f : ShapeFits e n buffer) {table : List ℕ}
-    (copied : table ≡ copiedFront e (replicate maxCarets 0)) where
+    (copied : Copied e zeros (length e) table) where
+  -- There is room for all entries.
+  table-room : length e ≤ length zeros
+  table-room = omega (arith, zeros-length, f .entries)
+
+  table-copied : table ≡ copiedFront e zeros
+  table-copied = copied .fits (omega arith) table-room
+
   table-same : SameEntries table e
-  table-same i = ap (λ (t : List ℕ). getD t i 0) copied ∙ copied-same e maxCarets i
+  table-same i = ap (λ (t : List ℕ). getD t i 0) table-copied ∙ copied-same e maxCarets i
 
   table-length : length table ≡ maxCarets
   table-length =
-      let zeros : List ℕ = replicate maxCarets 0 in
-      let size : length zeros ≡ maxCarets = length-replicate {A = ℕ} maxCarets 0 in
-      length table ≡⟨ ap length copied ⟩
-      length (copiedFront e zeros) ≡⟨ filled-length (length e) (λ j. getD e j 0) zeros (omega (arith, f .entries)) ⟩
-      length zeros ≡⟨ size ⟩
+      length table ≡⟨ ap length table-copied ⟩
+      length (copiedFront e zeros) ≡⟨ filled-length (length e) (λ j. getD e j 0) zeros table-room ⟩
+      length zeros ≡⟨ zeros-length ⟩
       maxCarets ∎
 
   pub copied-fits : ShapeFits table n buffer

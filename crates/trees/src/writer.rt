@@ -9,7 +9,7 @@ ghost use Rattle.lists.specs.inside.Writes.{Wrote};
 ghost use Rattle.trees.specs.inside.Writing.{nodesFrom};
 ghost use Rattle.trees.specs.Building.{treeOf};
 ghost use Rattle.trees.specs.Shapes.{shape as shapeOf};
-ghost use Rattle.trees.specs.inside.Steps.{NodesFit, Partly, ShapeFits, copiedFront};
+ghost use Rattle.trees.specs.inside.Steps.{NodesFit, Partly, ShapeFits};
 use crate::MAX_CARETS;
 use refusals::GeneratorIndex;
 use refusals::LeafNumber;
@@ -109,25 +109,13 @@ fn write_whole(e: &[u16], n: usize, shape: &mut [u8])
     write_spine(&e[..n], LeafNumber(0), shape, 0);
 }
 
-// The entries of a table, at the front of another.
-fn copy_front(e: &[u16], table: &mut [u16])
-    requires { ⌜ length (now e) ≤ length (now table) ⌝ }
-    ensures { λ _. ⌜ now (table .exit) ≡ copiedFront (now (e .entry)) (now (table .entry)) ⌝ }
-{
-    let mut k = 0;
-    while k < e.len() {
-        table[k] = e[k];
-        k += 1;
-    }
-}
-
 // The same tree from a shorter table: zeros stand behind its entries.
 fn write_short(e: &[u16], n: usize, shape: &mut [u8])
     requires { ⌜ ShapeFits (now e) n (now shape) ⌝ }
     ensures { λ _. ⌜ now (shape .exit) ≡ sets (now (shape .entry)) 0 (shapeOf (treeOf n (now (e .entry)))) ⌝ }
 {
     let mut table = [0u16; MAX_CARETS];
-    copy_front(e, &mut table);
+    copying::copy_front(e, &mut table, e.len());
     write_whole(&table, n, shape);
 }
 

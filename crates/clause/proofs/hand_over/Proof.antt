@@ -1,10 +1,11 @@
 -- `hand_over` meets its contract: the clause, then the copies. Assumes nothing.
-use mathlib.Core.Path.{ap, _∙_}
+use mathlib.Core.Path.{ap}
+use native.Mathlib.Omega.{arith}
 use borrow.Author.Needs.{needs}
 use Rattle.group.specs.Forms.{bSide, aSide}
 use Rattle.refusals.specs.Outcomes.{verdictOf}
 use Rattle.clause.proofs.Handing.{into-refused, into-short-b, into-short-a, into-filled}
-use Rattle.clause.proofs.Handing.{find-refused, find-accepted, copy-filled}
+use Rattle.clause.proofs.Handing.{find-refused, find-accepted, copied-shown}
 use Rattle.clause.proofs.hand_over.Statement.{statement}
 use Rattle.clause.proofs.hand_over.Tie as tie
 
@@ -23,9 +24,6 @@ returns c =
     let told = c .enum-told2 .given .1 in
     λ f h. into-refused _ (find-refused f _ (checked .check-tables .ensures f h) told) (ap verdictOf told)
 
-add-if1 : tie.Need-add-if1
-add-if1 c = search needs
-
 returns-2 : tie.Need-returns-2
 returns-2 c =
     let told = c .before in
@@ -33,9 +31,6 @@ returns-2 c =
     let args = checked .before .before .before .args in
     λ f h. into-short-b (args .b-table .now) (args .a-table .now)
     (find-accepted f _ (checked .check-tables .ensures f h) (told .enum-told .given .1)) (c .if1 .taken)
-
-add-if2 : tie.Need-add-if2
-add-if2 c = search needs
 
 returns-3 : tie.Need-returns-3
 returns-3 c =
@@ -46,11 +41,11 @@ returns-3 c =
     (find-accepted f _ (checked .check-tables .ensures f h) (told .enum-told .given .1))
     (c .before .if1 .left) (c .if2 .taken)
 
-copy-table-requires : tie.Need-copy-table-requires
-copy-table-requires c κs = search needs
+copy-front-requires : tie.Need-copy-front-requires
+copy-front-requires c κs = search needs
 
-copy-table-requires-2 : tie.Need-copy-table-requires-2
-copy-table-requires-2 c κs = search needs
+copy-front-requires-2 : tie.Need-copy-front-requires-2
+copy-front-requires-2 c κs = search needs
 
 same-length : tie.Need-same-length
 same-length c = search needs
@@ -69,8 +64,8 @@ returns-4 c =
     λ f h. into-filled (args .b-table .now) (args .a-table .now)
     (find-accepted f _ (checked .check-tables .ensures f h) (told .enum-told .given .1))
     (long .before .if1 .left) (long .if2 .left)
-    (first .copy-table .ensures ∙ copy-filled f bSide (args .b .now) (args .b-table .now) (λ i le. h i le .0))
-    (second .copy-table2 .ensures ∙ copy-filled f aSide (args .a .now) (args .a-table .now) (λ i le. h i le .1))
+    (copied-shown f bSide (first .copy-front .ensures) (omega arith) (long .before .if1 .left) (λ i le. h i le .0))
+    (copied-shown f aSide (second .copy-front2 .ensures) (omega arith) (long .if2 .left) (λ i le. h i le .1))
 
 pub hand-over-spec : {M : Type 1} → statement M
 hand-over-spec =
@@ -80,12 +75,10 @@ hand-over-spec =
     enum-told
     enum-told-2
     returns
-    add-if1
     returns-2
-    add-if2
     returns-3
-    copy-table-requires
-    copy-table-requires-2
+    copy-front-requires
+    copy-front-requires-2
     same-length
     same-length-2
     returns-4)

@@ -2,9 +2,8 @@
 use mathlib.Core.Path.{_≡_}
 use mathlib.Core.List.{List}
 use Prim.Native.Nat.{ℕ, _+_, _≤_, _<_}
-use lib.ListN.{length, drop, getD}
+use lib.ListN.{length, drop}
 use Rattle.lists.specs.Entries.{total}
-use Rattle.lists.specs.Tables.{filled}
 use Rattle.lists.specs.inside.Writes.{Writing}
 use Rattle.trees.specs.declared.writer.Place.{Place}
 use Rattle.trees.specs.Building.{needed}
@@ -31,10 +30,6 @@ pub record ShapeFits (e : List ℕ) (n : ℕ) (buffer : List ℕ) : Type 0 where
   pub enough : needed 0 e ≤ n
   pub small : n ≤ maxCarets
   pub room : shapeSize n ≤ length buffer
-
--- The entries of a table, at the front of another.
-abbrev pub copiedFront : (e table : List ℕ) → List ℕ
-copiedFront e table = filled (length e) (λ i. getD e i 0) table
 
 -- The entries of a table from i on are 0.
 pub record Unused (e : List ℕ) (i : ℕ) : Type 0 where

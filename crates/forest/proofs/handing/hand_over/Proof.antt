@@ -1,4 +1,5 @@
 -- `handing::hand_over` meets its contract: the refusals, then the copies. Assumes nothing.
+use native.Mathlib.Omega.{arith}
 use borrow.Author.Needs.{needs}
 use Rattle.forest.proofs.HandedOver.{too-high, short-b, short-a, handed}
 use Rattle.forest.proofs.handing.hand_over.Statement.{statement}
@@ -23,11 +24,11 @@ returns-3 c =
     λ ps s. short-a (args .b-table .now) (args .a-table .now) ps s (at-if1 .if1 .left) (at-if2 .if2 .left)
     (c .if3 .taken)
 
-copy-table-requires : tie.Need-copy-table-requires
-copy-table-requires c κs = search needs
+copy-front-requires : tie.Need-copy-front-requires
+copy-front-requires c κs = search needs
 
-copy-table-requires-2 : tie.Need-copy-table-requires-2
-copy-table-requires-2 c κs = search needs
+copy-front-requires-2 : tie.Need-copy-front-requires-2
+copy-front-requires-2 c κs = search needs
 
 same-length : tie.Need-same-length
 same-length c = search needs
@@ -38,13 +39,13 @@ same-length-2 c = search needs
 returns-4 : tie.Need-returns-4
 returns-4 c =
     let second = c .before .before in
-    let first = second .before .before .before .before in
-    let at-if3 = first .before .before in
+    let first = second .before .before .before .before .before in
+    let at-if3 = first .before .before .before in
     let at-if2 = at-if3 .before in
     let at-if1 = at-if2 .before in
     let args = at-if1 .before .before .before .before .args in
     λ ps s. handed (args .b-table .now) (args .a-table .now) ps s (at-if1 .if1 .left) (at-if2 .if2 .left)
-    (at-if3 .if3 .left) (first .copy-table .ensures) (second .copy-table2 .ensures)
+    (at-if3 .if3 .left) (omega arith) (omega arith) (first .copy-front .ensures) (second .copy-front2 .ensures)
 
 pub hand-over-spec : {M : Type 1} → statement M
 hand-over-spec =
@@ -53,8 +54,8 @@ hand-over-spec =
     returns
     returns-2
     returns-3
-    copy-table-requires
-    copy-table-requires-2
+    copy-front-requires
+    copy-front-requires-2
     same-length
     same-length-2
     returns-4)

@@ -1,0 +1,2 @@
+-- Laws of copied tables.
+pub mod Copying

@@ -1,0 +1,2 @@
+-- what no claim reaches
+pub mod inside
