@@ -8,7 +8,7 @@ use lib.Seq.{length-sets}
 use Rattle.lists.specs.inside.Writes.{Wrote}
 use Rattle.numerals.specs.Decimals.{decimal}
 use Rattle.numerals.proofs.Decimals.{decimal-length}
-use Rattle.printing.specs.Printing.{Put}
+use Rattle.printing.specs.inside.Printing.{Put}
 
 module _ {bytes entry : List ℕ} {at : ℕ} where
   -- They do not fit: nothing is written.

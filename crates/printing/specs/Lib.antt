@@ -1,2 +1,2 @@
--- Bytes at a place of a buffer.
-pub mod Printing
+-- what no claim reaches
+pub mod inside

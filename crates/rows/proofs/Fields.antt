@@ -9,7 +9,7 @@ use Rattle.lists.specs.inside.Writes.{Wrote}
 use Rattle.lists.proofs.Writes.{write-then, wrote-same}
 use Rattle.numerals.specs.Decimals.{decimal}
 use Rattle.numerals.proofs.Decimals.{decimal-length}
-use Rattle.printing.specs.Printing.{Put}
+use Rattle.printing.specs.inside.Printing.{Put}
 use Rattle.printing.proofs.Fitting.{put-behind}
 use Rattle.rows.specs.Text.{hexOf}
 use Rattle.rows.specs.inside.Steps.{numberThen, numberSize, fourNumbers, numbersSize, recordRow}
