@@ -1,12 +1,12 @@
--- The three demands of document 01, with the calls of 02, [1], said of the functions themselves and of the exports for C
--- and Rust: of what is lent to a call, of what it leaves, and of its answer. No contract stands in it. Read this file first; docs/DECISIONS.md
--- quotes the demands as they were set. proofs/Demanded.antt has the proofs.
+-- The three demands of document 01, with the calls of 02, [1], said of the functions themselves and of the exports for
+-- C and Rust: of what is lent to a call, of what it leaves, and of its answer. No contract stands in it. Read this file
+-- first; docs/DECISIONS.md quotes the demands as they were set. proofs/Demanded.antt has the proofs.
 --     Always T f R      every call of the function f, on any arguments, returns, with R of its arguments as they were
 --                       and as they are at exit, and of its answer; nothing is asked of the caller
 -- Letters: u, v bytes lent as a word; w, x words; s bytes lent as a record; m, k memory lent with a word or a text: b
 -- table, a table and record buffer, which are b, a, e of the first word and c, d, g of the second; p, q buffers for
--- shapes; t bytes lent as a text, or a buffer for letters or a text; ps powers; r an answer, o an outcome or a decision;
--- a ′ marks the same at exit.
+-- shapes; t bytes lent as a text, or a buffer for letters or a text; ps powers; r an answer, o an outcome or a
+-- decision; a ′ marks the same at exit.
 -- The names used, what each is, and the crate and file of its specs that define it:
 --     now x                       the elements of the slice behind the reference x                the kit, Denote/Ref
 --     replyOf, verdictOf          an answer as accepted n, or as refused with number and place    refusals, Outcomes

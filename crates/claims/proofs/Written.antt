@@ -1,4 +1,5 @@
--- What an accepted call on a word leaves: its form's exponents in the tables, and its record at the front of the buffer.
+-- What an accepted call on a word leaves: its form's exponents in the tables, and its record at the front of the
+-- buffer.
 --     record-written     the papers' sentence of it, for tables filled up to any number of entries
 --     Listed w s         s is the record of w, whose form is within the limits
 --     listed↔joined      two such records are equal just when a chain joins the words

@@ -3,12 +3,11 @@
 -- no contract in it.
 -- What need not be believed: contracts (the first group below) stand left of the arrows only. Each function is proved
 -- to meet its contract (crate `calls`), so a reader has to believe what stands on the right, and the order in which a
--- function's `ensures` hands its arguments to the contract. The demands bind the six calls of 01 and the two of 02, [1],
--- their exports too.
--- `Unfit`, which functions inside may answer, is met by none of them.
--- Letters: u, v bytes lent as a word; w, x words; s bytes lent as a record; m, k memory lent with a word or a text; p, q
--- buffers for shapes; t bytes lent as a text, or a buffer for letters; ps powers; f, g a form or a call; a ′ marks the
--- same memory at exit.
+-- function's `ensures` hands its arguments to the contract. The demands bind the six calls of 01 and the two of 02,
+-- [1], their exports too. `Unfit`, which functions inside may answer, is met by none of them.
+-- Letters: u, v bytes lent as a word; w, x words; s bytes lent as a record; m, k memory lent with a word or a text; p,
+-- q buffers for shapes; t bytes lent as a text, or a buffer for letters; ps powers; f, g a form or a call; a ′ marks
+-- the same memory at exit.
 -- Contracts, and the crate and file that define each:
 --     Recorded u m m′ r           word_to_record                                                  words, Recording
 --     Checked s r                 check_record                                                    records, Checking
@@ -131,9 +130,9 @@ pub record Demand2 : Type 0 where
   pub text-record-again : (s : List ℕ) (g : PhraseCall s) (f : MemoryCall (TextRecorded (phrasedBy g)))
       → writtenBy f ≡ s
 
--- Demand 3: two accepted words, each sent in letters or in subscript notation, have equal records, as many bytes and the
--- same byte at each place, just when a chain joins them, whatever the lent memory held; so it is of the exported calls;
--- and the two-word call decides it.
+-- Demand 3: two accepted words, each sent in letters or in subscript notation, have equal records, as many bytes and
+-- the same byte at each place, just when a chain joins them, whatever the lent memory held; so it is of the exported
+-- calls; and the two-word call decides it.
 pub record Demand3 : Type 0 where
   pub equal-just-when-joined : (w x : Word) (f : CallOn w) (g : CallOn x) → (recordBy f ≡ recordBy g) ↔ Joined w x
   pub exported-just-when-joined : (w x : Word) (f : ExportedCall w) (g : ExportedCall x)

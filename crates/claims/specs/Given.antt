@@ -19,7 +19,8 @@
 --     IsKind t k x                  caret k of t is of kind x                                   lengths, Kinds
 --     weights xs ys                 the sum of the weights of two lists of kinds                lengths, Weights
 --     At xs k x                     entry k of the list xs is x                                 lists, Entries
---     textOf ps, formPowers f       the text of powers; the powers of a form in its order        tokens, Texts; group, Powers
+--     textOf ps                     the tokens of powers, one space apart                       tokens, Texts
+--     formPowers f                  the powers of a form in its order                           group, Powers
 --     productLetters ps             the letters that powers are read through                    group, Powers
 --     Spells f w                    w is each x_k^e of f in order, through its letters, with    spelling, Spelling
 --                                   neighbouring inverse letters deleted until none is left

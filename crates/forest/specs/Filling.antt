@@ -1,5 +1,5 @@
--- The exponents of a reduced form, in the tables that were lent: of a word's form (01, 'What the desk can be asked') and
--- of the form of a product of powers (02, [1]). Assumes nothing.
+-- The exponents of a reduced form, in the tables that were lent: of a word's form (01, 'What the desk can be asked')
+-- and of the form of a product of powers (02, [1]). Assumes nothing.
 use mathlib.Core.Bool.{cond}
 use mathlib.Core.List.{List}
 use Prim.Native.Nat.{ℕ, suc, _+_}

@@ -1,5 +1,5 @@
--- Powers that three slices hold fit the engine: no index is above the limit, and the exponents sum to at most the limit.
--- Assumes nothing.
+-- Powers that three slices hold fit the engine: no index is above the limit, and the exponents sum to at most the
+-- limit. Assumes nothing.
 use mathlib.Core.Path.{_≡_, refl, sym, ap, subst, _∙_}
 use mathlib.Core.Bool.{Bool, true, false, cond}
 use mathlib.Core.List.{List, [], _∷_}

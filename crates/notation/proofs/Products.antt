@@ -22,7 +22,8 @@ use Rattle.refusals.specs.declared.Reply.the-variants.{Number, Refused}
 use Rattle.refusals.specs.Refusals.{numberOf, placeOf}
 use Rattle.refusals.specs.inside.Verdicts.{countIn}
 use Rattle.refusals.specs.Outcomes.{Outcome, accepted, refused, after, then, valued, dropValue, refusal, replyOf}
-use Rattle.refusals.proofs.Outcomes.{accepted-refused, drop-accepted, drop-refused, passed, refused-number, refused-place}
+use Rattle.refusals.proofs.Outcomes.{accepted-refused, drop-accepted, drop-refused, passed}
+use Rattle.refusals.proofs.Outcomes.{refused-number, refused-place}
 use Rattle.records.specs.Format.{recordOf, encode, bufferSize}
 use Rattle.records.proofs.FormTables.{record-values}
 use Rattle.records.proofs.Lengths.{encode-size}
@@ -82,7 +83,8 @@ module _ (ps : List SignedPower) (m : Memory) where
     a-table = sym (ap (λ (o : Outcome (List SignedPower)). productTable aSide o (m .a)) e);
     bytes =
         sym
-        (ap (λ (o : Outcome (List SignedPower)). after o (m .buffer) (λ qs. sets (m .buffer) 0 (encode (productForm qs))))
+        (ap (λ (o : Outcome (List SignedPower)).
+        after o (m .buffer) (λ qs. sets (m .buffer) 0 (encode (productForm qs))))
         e);
   }
 
@@ -194,7 +196,9 @@ module _ {ps : List SignedPower} {b a b′ a′ : List ℕ} {v : Reply} (t : Fil
             ∙ ap (λ (o : Outcome (List SignedPower)). productTable aSide o a) (is ∙ sym all);
         bytes =
             sym
-            (ap (λ (o : Outcome (List SignedPower)). after o buffer (λ qs. sets buffer 0 (encode (productForm qs)))) all);
+            (ap (λ (o : Outcome (List SignedPower)).
+            after o buffer (λ qs. sets buffer 0 (encode (productForm qs))))
+            all);
       }
 
   module _ (n : ℕ) (e : v ≡ Number n) where

@@ -24,8 +24,8 @@ use Rattle.words.specs.Recording.{Memory}
 use Rattle.tokens.specs.Texts.{textOf}
 use Rattle.tokens.specs.Reading.{TextRead}
 
--- Powers beside tables and a buffer of these lengths: 11 and 6, then 7 where the buffer is too short for as many entries
--- as the exponents sum to.
+-- Powers beside tables and a buffer of these lengths: 11 and 6, then 7 where the buffer is too short for as many
+-- entries as the exponents sum to.
 abbrev pub roomFor : (nb na nr : ℕ) → List SignedPower → Outcome (List SignedPower)
 roomFor nb na nr ps =
     then (tablesFor nb na ps) (λ qs. cond (ltb nr (bufferSize (exponentSizes qs))) (refused 7 0) (accepted qs))
@@ -34,8 +34,8 @@ roomFor nb na nr ps =
 abbrev pub judgedText : Outcome (List SignedPower) → Memory → Outcome (List SignedPower)
 judgedText o m = then o (roomFor (length (m .b)) (length (m .a)) (length (m .buffer)))
 
--- For every text and whatever is lent with it: the value is the number of bytes of the record, which stands at the front
--- of the buffer.
+-- For every text and whatever is lent with it: the value is the number of bytes of the record, which stands at the
+-- front of the buffer.
 pub record TextRecorded (t : List ℕ) (entry exit : Memory) (r : Reply) : Type 0 where
   pub found : Outcome (List SignedPower)
   pub reads : TextRead t found

@@ -23,7 +23,8 @@ fn reply(filling: Filling) -> Reply
     }
 }
 
-// The exponents of the product's reduced form, in two tables, and how many levels were read; the scratch of the engine is the function's own.
+// The exponents of the product's reduced form, in two tables, and how many levels were read; the scratch of the engine
+// is the function's own.
 fn fill(
     indices: &[u16],
     exponents: &[u16],

@@ -1,5 +1,5 @@
--- The form of a word of at most as many letters as the limit is within the limits (01, 'The reduced form'), and so is that
--- of a product of powers, under two conditions (02, [1]). Assumes nothing.
+-- The form of a word of at most as many letters as the limit is within the limits (01, 'The reduced form'), and so is
+-- that of a product of powers, under two conditions (02, [1]). Assumes nothing.
 use mathlib.Core.List.{List}
 use Prim.Native.Nat.{ℕ, suc, _<_, _≤_}
 use native.Mathlib.Decide.{decLe}
@@ -25,8 +25,8 @@ form-within w short = record {
     low s i some (no h) = absurd (omega (arith, form-index w s i (omega (arith, h)), some))
 
 -- Powers whose sizes sum to at most the limit, and whose form has no index above it.
-pub product-within : (ps : List SignedPower) → exponentSizes ps ≤ limit → levels (formOf (productLetters ps)) ≤ suc limit
-    → Within (formOf (productLetters ps))
+pub product-within : (ps : List SignedPower) → exponentSizes ps ≤ limit
+    → levels (formOf (productLetters ps)) ≤ suc limit → Within (formOf (productLetters ps))
 product-within ps few low = record {
   indices = λ s i some. under s i some (decLe i limit);
   sum = omega (arith, product-sum ps, few);

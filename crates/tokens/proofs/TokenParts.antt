@@ -1,5 +1,5 @@
--- The parts of a token: which contract each way through the functions that read an exponent, an index and a token meets.
--- Assumes nothing.
+-- The parts of a token: which contract each way through the functions that read an exponent, an index and a token
+-- meets. Assumes nothing.
 use mathlib.Core.Path.{_≡_, refl, sym, ap, _∙_, subst}
 use mathlib.Core.Bool.{true, false}
 use mathlib.Core.List.{List, [], _∷_, _++_, append-assoc}

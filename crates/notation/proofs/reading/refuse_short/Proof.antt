@@ -23,8 +23,8 @@ returns c =
     let at-filled = c .before in
     let at-fill = at-filled .before .before .before .before in
     let lent = at-fill .before .before .before .before .before .before .args in
-    short-high (at-fill .fill .ensures) (search needs) (search needs) (lent .b-length) (lent .a-length) (at-filled .filled .given .0 .0)
-    (at-filled .filled .given .1)
+    short-high (at-fill .fill .ensures) (search needs) (search needs) (lent .b-length) (lent .a-length)
+    (at-filled .filled .given .0 .0) (at-filled .filled .given .1)
 
 enum-told : tie.Need-enum-told
 enum-told c = search needs
@@ -34,24 +34,24 @@ returns-2 c =
     let at-told = c .before in
     let at-fill = at-told .before .before .before .before in
     let lent = at-fill .before .before .before .before .before .before .args in
-    short-b (at-fill .fill .ensures) (search needs) (search needs) (lent .b-length) (lent .a-length) (at-told .enum-told .given .0 .0)
-    (at-told .enum-told .given .1) (omega arith)
+    short-b (at-fill .fill .ensures) (search needs) (search needs) (lent .b-length) (lent .a-length)
+    (at-told .enum-told .given .0 .0) (at-told .enum-told .given .1) (omega arith)
 
 returns-3 : tie.Need-returns-3
 returns-3 c =
     let at-told = c .before .before in
     let at-fill = at-told .before .before .before .before in
     let lent = at-fill .before .before .before .before .before .before .args in
-    short-a (at-fill .fill .ensures) (search needs) (search needs) (lent .b-length) (lent .a-length) (at-told .enum-told .given .0 .0)
-    (at-told .enum-told .given .1) (omega arith) (omega arith)
+    short-a (at-fill .fill .ensures) (search needs) (search needs) (lent .b-length) (lent .a-length)
+    (at-told .enum-told .given .0 .0) (at-told .enum-told .given .1) (omega arith) (omega arith)
 
 returns-4 : tie.Need-returns-4
 returns-4 c =
     let at-told = c .before .before in
     let at-fill = at-told .before .before .before .before in
     let lent = at-fill .before .before .before .before .before .before .args in
-    short-buffer (at-fill .fill .ensures) (search needs) (search needs) (lent .b-length) (lent .a-length) (at-told .enum-told .given .0 .0)
-    (at-told .enum-told .given .1) (omega arith) (omega arith)
+    short-buffer (at-fill .fill .ensures) (search needs) (search needs) (lent .b-length) (lent .a-length)
+    (at-told .enum-told .given .0 .0) (at-told .enum-told .given .1) (omega arith) (omega arith)
 
 pub refuse-short-spec : {M : Type 1} → statement M
 refuse-short-spec =
