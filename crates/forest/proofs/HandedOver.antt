@@ -1,5 +1,5 @@
 -- Powers whose row was read off: what the own tables show, and what is handed over, case by case. Assumes nothing.
-use mathlib.Core.Path.{_≡_, refl, sym, _∙_, ap}
+use mathlib.Core.Path.{_≡_, refl, sym, _∙_, ap, subst}
 use mathlib.Core.Bool.{true, false}
 use mathlib.Core.List.{List}
 use Prim.Native.Nat.{ℕ, suc, _≤_, _<_}
@@ -22,13 +22,13 @@ use Rattle.forest.specs.declared.Filling.{Filling}
 use Rattle.forest.specs.declared.Filling.the-variants.{Filled, Refused, Unfit}
 use Rattle.forest.specs.Filling.{productForm, tablesFor, productTable}
 use Rattle.forest.specs.inside.Filling.{cells, fillingOf}
-use Rattle.forest.specs.inside.FillingPowers.{scratchFits, powersFit, judgedPowers, FilledPowers}
+use Rattle.forest.specs.inside.FillingPowers.{FilledAs, scratchFits, powersFit, judgedPowers, FilledPowers}
 use Rattle.forest.specs.inside.Forest.{Bush, tipAt}
 use Rattle.forest.specs.inside.Cells.{StackStands}
 use Rattle.forest.specs.inside.Cursor.{cursorBushes, cursorOf, IndicesWithin}
 use Rattle.forest.specs.inside.Seeking.{PowersReady, powerBushes, PowersPiled}
 use Rattle.forest.specs.inside.Leaves.{TablesRead}
-use Rattle.forest.specs.inside.Handing.{FilledAs, Shown, PileReady, PileRead}
+use Rattle.forest.specs.inside.Handing.{Shown, PileReady, PileRead}
 use Rattle.forest.proofs.CursorBounds.{cursor-exponent}
 use Rattle.forest.proofs.HighTips.{low-levels, high-levels}
 use Rattle.forest.proofs.RowTips.{tips-levels}
@@ -126,12 +126,8 @@ module _ {ks es ss b a lefts rights before stack : List ℕ} where
   by-outcome : {o : Outcome (List SignedPower)} {b′ a′ : List ℕ} {r : Filling}
       → judgedPowers ks es ss b a lefts rights before stack ≡ o → FilledAs o b a b′ a′ r
       → FilledPowers ks es ss b a lefts rights before stack b′ a′ r
-  by-outcome e f = record {
-    result = f .result ∙ sym (ap (λ (u : Outcome (List SignedPower)). dropValue u) e);
-    b-table = f .b-table ∙ sym (ap (λ (u : Outcome (List SignedPower)). productTable bSide u b) e);
-    a-table = f .a-table ∙ sym (ap (λ (u : Outcome (List SignedPower)). productTable aSide u a) e);
-    levels-read = λ n h ps g. f .levels-read n h ps (sym e ∙ g);
-  }
+  by-outcome {o} {b′} {a′} {r} e f =
+      record { filled = subst (λ (u : Outcome (List SignedPower)). FilledAs u b a b′ a′ r) (sym e) f }
 
   -- Scratch or powers that are unfit.
   pub unfit-scratch : scratchFits lefts rights before stack ≡ false

@@ -104,14 +104,14 @@ module _ {ks es ss : List ℕ} (h : Kept ks es ss) where
         → FilledBy (powersIn ks es ss) b a b′ a′ (fillingReply f)
     engine-fills f t = record {
       result = reply-dropped f fit ∙ so;
-      b-table = t .b-table ∙ ap (λ (o : Outcome (List SignedPower)). productTable bSide o b) engine-judges;
-      a-table = t .a-table ∙ ap (λ (o : Outcome (List SignedPower)). productTable aSide o a) engine-judges;
+      b-table = t .filled .b-table ∙ ap (λ (o : Outcome (List SignedPower)). productTable bSide o b) engine-judges;
+      a-table = t .filled .a-table ∙ ap (λ (o : Outcome (List SignedPower)). productTable aSide o a) engine-judges;
       levels-read = λ n e o.
-          t .levels-read n (reply-number f n fit e) (powersIn ks es ss) (engine-judges ∙ o);
+          t .filled .levels-read n (reply-number f n fit e) (powersIn ks es ss) (engine-judges ∙ o);
     }
       where
         so : fillingOf f ≡ dropValue (tablesFor (length b) (length a) (powersIn ks es ss))
-        so = t .result ∙ ap (λ (o : Outcome (List SignedPower)). dropValue o) engine-judges
+        so = t .filled .result ∙ ap (λ (o : Outcome (List SignedPower)). dropValue o) engine-judges
 
         fit : Fit f
         fit = fit-outcome (length b) (length a) (powersIn ks es ss) f so

@@ -44,13 +44,15 @@ judgedPowers ks es ss b a lefts rights before stack =
     (cond (powersFit ks es ss) (tablesFor (length b) (length a) (powersIn ks es ss)) (refused 0 0))
     (refused 0 0)
 
--- For any powers and whatever is lent with them: on a refusal the tables are as they were. What the scratch holds at
--- exit is open.
-pub record FilledPowers (ks es ss b a lefts rights before stack b′ a′ : List ℕ) (r : Filling) : Type 0 where
-  pub result : fillingOf r ≡ dropValue (judgedPowers ks es ss b a lefts rights before stack)
-  pub b-table : b′ ≡ productTable bSide (judgedPowers ks es ss b a lefts rights before stack) b
-  pub a-table : a′ ≡ productTable aSide (judgedPowers ks es ss b a lefts rights before stack) a
+-- The lent tables and the answer, by an outcome of powers: on a refusal the tables are as they were.
+pub record FilledAs (o : Outcome (List SignedPower)) (b a b′ a′ : List ℕ) (r : Filling) : Type 0 where
+  pub result : fillingOf r ≡ dropValue o
+  pub b-table : b′ ≡ productTable bSide o b
+  pub a-table : a′ ≡ productTable aSide o a
   -- The entries below n are all that a record of the form needs; how far n is above the number of levels is open.
-  pub levels-read : (n : ℕ) → r ≡ Filled n → (ps : List SignedPower)
-      → judgedPowers ks es ss b a lefts rights before stack ≡ accepted ps
+  pub levels-read : (n : ℕ) → r ≡ Filled n → (ps : List SignedPower) → o ≡ accepted ps
       → (levels (productForm ps) ≤ n) × (n ≤ suc limit)
+
+-- For any powers and whatever is lent with them. What the scratch holds at exit is open.
+pub record FilledPowers (ks es ss b a lefts rights before stack b′ a′ : List ℕ) (r : Filling) : Type 0 where
+  pub filled : FilledAs (judgedPowers ks es ss b a lefts rights before stack) b a b′ a′ r

@@ -7,22 +7,13 @@ use lib.ListN.{length, getD}
 use Rattle.group.specs.Forms.{bSide, aSide, exponent, levels}
 use Rattle.group.specs.Limits.{limit}
 use Rattle.group.specs.Powers.{SignedPower}
-use Rattle.refusals.specs.Outcomes.{Outcome, accepted, dropValue}
 use Rattle.forest.specs.declared.Filling.{Filling}
-use Rattle.forest.specs.declared.Filling.the-variants.{Filled}
-use Rattle.forest.specs.Filling.{productForm, tablesFor, productTable}
-use Rattle.forest.specs.inside.Filling.{cells, fillingOf}
+use Rattle.forest.specs.Filling.{productForm, tablesFor}
+use Rattle.forest.specs.inside.Filling.{cells}
+use Rattle.forest.specs.inside.FillingPowers.{FilledAs}
 use Rattle.forest.specs.inside.Forest.{Bush, forestTips}
 use Rattle.forest.specs.inside.Cells.{StackStands}
 use Rattle.forest.specs.inside.Cursor.{cursorBushes, cursorOf, IndicesWithin}
-
--- The lent tables and the answer, by the outcome of the powers.
-pub record FilledAs (o : Outcome (List SignedPower)) (b a b′ a′ : List ℕ) (r : Filling) : Type 0 where
-  pub result : fillingOf r ≡ dropValue o
-  pub b-table : b′ ≡ productTable bSide o b
-  pub a-table : a′ ≡ productTable aSide o a
-  pub levels-read : (n : ℕ) → r ≡ Filled n → (ps : List SignedPower) → o ≡ accepted ps
-      → (levels (productForm ps) ≤ n) × (n ≤ suc limit)
 
 -- Two own tables show the form of the powers up to the limit; the height tells whether a higher index occurs.
 pub record Shown (ps : List SignedPower) (read height : ℕ) (b a : List ℕ) : Type 0 where
