@@ -11,7 +11,8 @@ use lib.Seq.{drop-cons, drop-length}
 use borrow.Author.Tests.{lt-ltb, le-ltb, ltb-false, eqb-true, not-true, not-false}
 use Rattle.lists.specs.Entries.{total}
 use Rattle.group.specs.Limits.{limit}
-use Rattle.group.specs.Powers.{exponentSizes, powersIn}
+use Rattle.group.specs.Powers.{exponentSizes}
+use Rattle.group.specs.inside.PowerLists.{powersIn}
 use Rattle.forest.specs.inside.Filling.{cells}
 use Rattle.forest.specs.inside.FillingPowers.{indicesFit, scratchFits, powersFit}
 use Rattle.forest.specs.inside.Cursor.{IndicesWithin}

@@ -13,7 +13,8 @@ use Rattle.copying.specs.inside.Copying.{Copied}
 use Rattle.copying.proofs.Copying.{copied-values}
 use Rattle.group.specs.Forms.{Side, bSide, aSide, exponent, levels}
 use Rattle.group.specs.Limits.{limit}
-use Rattle.group.specs.Powers.{SignedPower, productLetters, powersIn}
+use Rattle.group.specs.Powers.{SignedPower, productLetters}
+use Rattle.group.specs.inside.PowerLists.{powersIn}
 use Rattle.group.proofs.Sizes.{exponent-behind}
 use Rattle.refusals.specs.declared.Refusal.the-variants.{HighIndex, ShortTable}
 use Rattle.refusals.specs.Outcomes.{Outcome, accepted, refused, dropValue}

@@ -5,7 +5,7 @@ use Prim.Native.Nat.{ℕ, zero, suc, _+_, _≤_, _<_}
 use native.Mathlib.Omega.{arith}
 use lib.ListN.{length}
 use Rattle.group.specs.Forms.{Side, bSide, aSide}
-use Rattle.group.specs.Powers.{sideOf}
+use Rattle.group.specs.inside.PowerLists.{sideOf}
 use Rattle.group.specs.Limits.{limit}
 use Rattle.forest.specs.declared.powers.Hand.{Hand}
 use Rattle.forest.specs.inside.Filling.{cells}

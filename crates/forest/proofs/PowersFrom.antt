@@ -5,7 +5,8 @@ use Prim.Native.Nat.{ℕ, zero, suc, _≤_, _<_}
 use native.Mathlib.Omega.{arith}
 use lib.ListN.{getD, length, drop}
 use lib.Seq.{drop-cons}
-use Rattle.group.specs.Powers.{SignedPower, signedPower, exponentSizes, sideOf, powersIn}
+use Rattle.group.specs.Powers.{SignedPower, signedPower, exponentSizes}
+use Rattle.group.specs.inside.PowerLists.{sideOf, powersIn}
 use Rattle.forest.specs.inside.Cursor.{Cursor, cursorOf, IndicesWithin}
 
 -- The powers from i on.

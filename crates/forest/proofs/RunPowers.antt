@@ -6,7 +6,8 @@ use native.Mathlib.Omega.{arith}
 use lib.ListN.{getD, length, drop}
 use lib.Seq.{drop-length}
 use Rattle.group.specs.Forms.{Side, bSide, aSide}
-use Rattle.group.specs.Powers.{SignedPower, signedPower, exponentSizes, sideOf, powersIn}
+use Rattle.group.specs.Powers.{SignedPower, signedPower, exponentSizes}
+use Rattle.group.specs.inside.PowerLists.{sideOf, powersIn}
 use Rattle.group.specs.Limits.{limit}
 use Rattle.forest.specs.inside.Filling.{cells}
 use Rattle.forest.specs.inside.Forest.{Bush, leftPart, firstBush}

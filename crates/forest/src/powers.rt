@@ -3,7 +3,7 @@
 ghost use mathlib.Core.Path.{_≡_};
 ghost use Prim.Native.Nat.{_+_, _≤_, _<_};
 ghost use lib.ListN.{length};
-ghost use Rattle.group.specs.Powers.{sideOf};
+ghost use Rattle.group.specs.inside.PowerLists.{sideOf};
 ghost use Rattle.forest.specs.inside.Seeking.{Seekable, Sought, MovedOn, Skipped, Storing};
 ghost use Rattle.forest.specs.inside.Seeking.{TurnReady, Turned, PowerRoom, PowerPut};
 ghost use Rattle.forest.specs.inside.Seeking.{PowersReady, PowersPiled};

@@ -17,3 +17,5 @@ pub mod Powers
 pub mod Limits
 pub mod Texts
 pub mod Bytes
+-- what no claim reaches
+pub mod inside

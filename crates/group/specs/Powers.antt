@@ -4,7 +4,6 @@
 --     signedPower s k e      x_k^e or x_k^−e             productLetters ps   the letters of a product of powers
 --     exponentSizes ps       the sum of the sizes of the exponents
 --     formPowers f           the powers of a form in the form's order, one for each exponent above 0
---     powersIn ks es ss      the powers that three lists hold: indices, exponents and sides
 -- Assumes nothing.
 use mathlib.Core.List.{List, [], _∷_, _++_}
 use Prim.Native.Nat.{ℕ, zero, suc, _+_}
@@ -57,15 +56,3 @@ fallingPowers k (level b a f) = fallingPowers (suc k) f ++ putSigned aSide k a [
 -- The powers of a form: the b side, then the a side.
 abbrev pub formPowers : Form → List SignedPower
 formPowers f = risingPowers 0 f ++ fallingPowers 0 f
-
--- The side that a number stands for: 0 the b side, any other the a side.
-abbrev pub sideOf : ℕ → Side
-sideOf zero = bSide
-sideOf (suc n) = aSide
-
--- The powers that three lists hold: index, exponent and side of each; no more than the shortest list has.
-abbrev pub powersIn : (indices exponents sides : List ℕ) → List SignedPower
-powersIn [] es ss = []
-powersIn (k ∷ ks) [] ss = []
-powersIn (k ∷ ks) (e ∷ es) [] = []
-powersIn (k ∷ ks) (e ∷ es) (s ∷ ss) = signedPower (sideOf s) k e ∷ powersIn ks es ss

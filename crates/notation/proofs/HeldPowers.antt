@@ -12,7 +12,8 @@ use borrow.Author.Tests.{le-ltb, eq-eqb}
 use Rattle.lists.specs.Entries.{total}
 use Rattle.group.specs.Limits.{limit}
 use Rattle.group.specs.Forms.{bSide, aSide, levels}
-use Rattle.group.specs.Powers.{SignedPower, powersIn, exponentSizes}
+use Rattle.group.specs.Powers.{SignedPower, exponentSizes}
+use Rattle.group.specs.inside.PowerLists.{powersIn}
 use Rattle.refusals.specs.Outcomes.{Outcome, accepted, refused, dropValue, replyOf}
 use Rattle.refusals.specs.declared.Reply.the-variants.{Number}
 use Rattle.refusals.proofs.Outcomes.{accepted-refused, refused-number}

@@ -7,7 +7,8 @@ use lib.ListN.{length, take}
 use lib.Seq.{sets}
 use Rattle.group.specs.Limits.{limit}
 use Rattle.group.specs.Forms.{bSide, aSide}
-use Rattle.group.specs.Powers.{SignedPower, exponentSizes, powersIn}
+use Rattle.group.specs.Powers.{SignedPower, exponentSizes}
+use Rattle.group.specs.inside.PowerLists.{powersIn}
 use Rattle.refusals.specs.declared.Refusal.{Refusal}
 use Rattle.refusals.specs.declared.Reply.{Reply}
 use Rattle.refusals.specs.declared.Reply.the-variants as Replies

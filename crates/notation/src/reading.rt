@@ -2,7 +2,8 @@
 ghost use mathlib.Core.Path.{_≡_};
 ghost use Prim.Native.Nat.{_≤_};
 ghost use lib.ListN.{length};
-ghost use Rattle.group.specs.Powers.{powersIn, exponentSizes};
+ghost use Rattle.group.specs.Powers.{exponentSizes};
+ghost use Rattle.group.specs.inside.PowerLists.{powersIn};
 ghost use Rattle.records.specs.Format.{bufferSize};
 ghost use Rattle.words.specs.Recording.{memory};
 ghost use Rattle.notation.specs.inside.Products.{Kept, fillingReply, FilledBy, ShortRoom};

@@ -3,7 +3,8 @@
 use mathlib.Core.Path.{_≡_, refl, sym, ap₂, subst}
 use mathlib.Core.List.{List, [], _∷_, _++_}
 use Prim.Native.Nat.{ℕ}
-use Rattle.numerals.specs.Decimals.{Digit, Digits, NoDigit}
+use Rattle.numerals.specs.Decimals.{Digit, Digits}
+use Rattle.numerals.specs.inside.Reading.{NoDigit}
 
 -- A list that begins with a digit is not one that does not.
 none-begins : (c : ℕ) (d r : List ℕ) → Digit c → NoDigit r → r ≡ c ∷ d → ⊥

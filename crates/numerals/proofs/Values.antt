@@ -6,7 +6,8 @@ use Prim.Native.Nat.{ℕ, _+_, _-_, _*_, _≤_, _<_}
 use native.Mathlib.Decide.{decLt}
 use native.Mathlib.Omega.{arith}
 use borrow.Author.Tests.{lt-ltb, le-ltb}
-use Rattle.numerals.specs.Decimals.{valueFrom, smaller, cappedFrom}
+use Rattle.numerals.specs.Decimals.{valueFrom}
+use Rattle.numerals.specs.inside.Reading.{smaller, cappedFrom}
 
 -- The value of digits in two parts.
 pub value-append : (d e : List ℕ) (v : ℕ) → valueFrom v (d ++ e) ≡ valueFrom (valueFrom v d) e

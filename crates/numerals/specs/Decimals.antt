@@ -3,7 +3,6 @@
 --     ascii s        the bytes of a text             decimal n     the digits of n, without zeros in front
 --     valueFrom v d  the value of digits d behind digits of the value v
 --     Numeral d      digits, at least one, and no zero in front of others
---     NoDigit s      no digit stands in front        cappedFrom c v d   the value, or c where it is above c
 -- Assumes nothing.
 use mathlib.Core.Bool.{cond}
 use mathlib.Core.List.{List, [], _∷_, _++_}
@@ -37,24 +36,10 @@ abbrev pub Digits : List ℕ → Type 0
 Digits [] = Unit {0}
 Digits (c ∷ d) = Digit c × Digits d
 
--- The list does not begin with a digit.
-abbrev pub NoDigit : List ℕ → Type 0
-NoDigit [] = Unit {0}
-NoDigit (c ∷ s) = Digit c → ⊥
-
 -- The value of digits behind digits of the value v.
 abbrev pub valueFrom : ℕ → List ℕ → ℕ
 valueFrom v [] = v
 valueFrom v (c ∷ d) = valueFrom (10 * v + (c - 48)) d
-
--- The smaller of two numbers.
-abbrev pub smaller : ℕ → ℕ → ℕ
-smaller m n = cond (ltb m n) m n
-
--- The same value, held at a bound: digits of any length are read with numbers of one size.
-abbrev pub cappedFrom : (most v : ℕ) → List ℕ → ℕ
-cappedFrom most v [] = v
-cappedFrom most v (c ∷ d) = cappedFrom most (smaller (10 * v + (c - 48)) most) d
 
 -- No zero stands in front of other digits.
 abbrev pub Leading : List ℕ → Type 0

@@ -10,7 +10,8 @@ use borrow.Author.Tests.{ltb-true, ltb-false, leb-true, leb-false}
 use lib.Dec.{ltb, leb}
 use lib.ListN.{length, getD, drop, length-append, length-drop, drop-of-length-le}
 use lib.Seq.{drop-cons, getD-drop}
-use Rattle.numerals.specs.Decimals.{decimal, Digit, Digits, NoDigit, valueFrom, cappedFrom, Leading, Numeral}
+use Rattle.numerals.specs.Decimals.{decimal, Digit, Digits, valueFrom, Leading, Numeral}
+use Rattle.numerals.specs.inside.Reading.{NoDigit, cappedFrom}
 use Rattle.numerals.proofs.Numerals.{digits-snoc, decimal-numeral, decimal-digits, decimal-value, numeral-decimal}
 use Rattle.numerals.proofs.Prefixes.{digits-prefix}
 use Rattle.numerals.proofs.Values.{capped-append, capped-below, capped-above, capped-most}

@@ -7,10 +7,11 @@ use native.Mathlib.Numerals.{add-one}
 use native.Mathlib.Omega.{arith}
 use lib.ListN.{length, take, set, length-append, length-set}
 use lib.Seq.{take-suc-set, length-take-le}
-use Rattle.numerals.specs.Decimals.{smaller}
+use Rattle.numerals.specs.inside.Reading.{smaller}
 use Rattle.numerals.proofs.Values.{smaller-first, smaller-second, smaller-le, smaller-sum, smaller-below}
 use Rattle.group.specs.Limits.{limit}
-use Rattle.group.specs.Powers.{SignedPower, signedPower, sizeOf, exponentSizes, sideOf, powersIn}
+use Rattle.group.specs.Powers.{SignedPower, signedPower, sizeOf, exponentSizes}
+use Rattle.group.specs.inside.PowerLists.{sideOf, powersIn}
 use Rattle.tokens.specs.declared.Powers.{Powers}
 use Rattle.tokens.specs.declared.token.Power.{Power}
 use Rattle.tokens.specs.inside.Arrays.{Holding}

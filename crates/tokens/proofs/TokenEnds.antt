@@ -10,7 +10,8 @@ use borrow.Author.Tests.{eqb-true, eqb-false}
 use lib.Dec.{eqb}
 use lib.ListN.{length, getD, drop, drop-of-length-le, List·getD-eq-default}
 use lib.Seq.{getD-drop}
-use Rattle.numerals.specs.Decimals.{decimal, Digits, NoDigit, Leading}
+use Rattle.numerals.specs.Decimals.{decimal, Digits, Leading}
+use Rattle.numerals.specs.inside.Reading.{NoDigit}
 use Rattle.numerals.proofs.Numerals.{decimal-numeral, decimal-digits, decimal-injective}
 use Rattle.numerals.proofs.Prefixes.{digits-prefix}
 use Rattle.group.specs.Limits.{limit}

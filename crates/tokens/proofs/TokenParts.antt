@@ -8,10 +8,12 @@ use native.Mathlib.Decide.{ℕ-discrete}
 use native.Mathlib.Omega.{arith}
 use borrow.Author.Tests.{eq-eqb, ne-eqb}
 use lib.ListN.{length, getD, drop}
-use Rattle.numerals.specs.Decimals.{decimal, NoDigit}
+use Rattle.numerals.specs.Decimals.{decimal}
+use Rattle.numerals.specs.inside.Reading.{NoDigit}
 use Rattle.group.specs.Forms.{Side, bSide, aSide}
 use Rattle.group.specs.Limits.{limit}
-use Rattle.group.specs.Powers.{signedPower, sideOf}
+use Rattle.group.specs.Powers.{signedPower}
+use Rattle.group.specs.inside.PowerLists.{sideOf}
 use Rattle.tokens.specs.Tokens.{xSign, powerSign, minusSign, exponentText}
 use Rattle.tokens.specs.inside.Ends.{AtEnd}
 use Rattle.tokens.specs.inside.Spelling.{most, isEnd, NumberRead, IndexRead, LastRead, ExponentRead, PowerRead}

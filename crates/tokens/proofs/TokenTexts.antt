@@ -7,7 +7,8 @@ use Prim.Native.Nat.{ℕ}
 use native.Mathlib.Omega.{arith}
 use lib.Dec.{eqb}
 use borrow.Author.Tests.{eqb-true}
-use Rattle.numerals.specs.Decimals.{decimal, Digits, NoDigit}
+use Rattle.numerals.specs.Decimals.{decimal, Digits}
+use Rattle.numerals.specs.inside.Reading.{NoDigit}
 use Rattle.numerals.proofs.Numerals.{decimal-digits, decimal-injective}
 use Rattle.numerals.proofs.Prefixes.{digits-prefix}
 use Rattle.group.specs.Forms.{Side, bSide, aSide}

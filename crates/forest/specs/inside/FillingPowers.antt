@@ -9,7 +9,8 @@ use lib.Dec.{eqb, ltb}
 use Rattle.lists.specs.Entries.{total}
 use Rattle.group.specs.Forms.{bSide, aSide, levels}
 use Rattle.group.specs.Limits.{limit}
-use Rattle.group.specs.Powers.{SignedPower, powersIn}
+use Rattle.group.specs.Powers.{SignedPower}
+use Rattle.group.specs.inside.PowerLists.{powersIn}
 use Rattle.refusals.specs.Outcomes.{Outcome, accepted, refused, dropValue}
 use Rattle.forest.specs.declared.Filling.{Filling}
 use Rattle.forest.specs.declared.Filling.the-variants.{Filled}

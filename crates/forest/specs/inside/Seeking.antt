@@ -5,7 +5,8 @@ use mathlib.Core.List.{List}
 use Prim.Native.Nat.{ℕ, zero, suc, _+_, _-_, _≤_, _<_}
 use lib.ListN.{getD, length}
 use Rattle.group.specs.Forms.{Side, bSide, aSide}
-use Rattle.group.specs.Powers.{exponentSizes, powersIn}
+use Rattle.group.specs.Powers.{exponentSizes}
+use Rattle.group.specs.inside.PowerLists.{powersIn}
 use Rattle.group.specs.Limits.{limit}
 use Rattle.forest.specs.declared.powers.Hand.{Hand}
 use Rattle.forest.specs.inside.Filling.{cells}

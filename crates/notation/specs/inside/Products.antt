@@ -6,7 +6,8 @@ use lib.ListN.{length}
 use lib.Seq.{sets}
 use Rattle.group.specs.Forms.{bSide, aSide, levels}
 use Rattle.group.specs.Limits.{limit}
-use Rattle.group.specs.Powers.{SignedPower, powersIn, exponentSizes}
+use Rattle.group.specs.Powers.{SignedPower, exponentSizes}
+use Rattle.group.specs.inside.PowerLists.{powersIn}
 use Rattle.refusals.specs.declared.Refusal.{Refusal}
 use Rattle.refusals.specs.declared.Reply.{Reply}
 use Rattle.refusals.specs.declared.Reply.the-variants.{Number, Refused}

@@ -3,7 +3,8 @@ use mathlib.Core.Path.{_≡_}
 use mathlib.Core.List.{List}
 use Prim.Native.Nat.{ℕ, _≤_}
 use lib.ListN.{length, take}
-use Rattle.group.specs.Powers.{SignedPower, exponentSizes, powersIn}
+use Rattle.group.specs.Powers.{SignedPower, exponentSizes}
+use Rattle.group.specs.inside.PowerLists.{powersIn}
 use Rattle.refusals.specs.Outcomes.{Outcome, accepted, valued, refusal}
 use Rattle.tokens.specs.Reading.{TextRead}
 use Rattle.tokens.specs.declared.Powers.{Powers}

@@ -3,9 +3,10 @@ use mathlib.Core.Path.{_≡_}
 use mathlib.Core.List.{List}
 use Prim.Native.Nat.{ℕ, _+_, _≤_}
 use lib.ListN.{length, drop, set}
-use Rattle.numerals.specs.Decimals.{smaller}
+use Rattle.numerals.specs.inside.Reading.{smaller}
 use Rattle.group.specs.Limits.{limit}
-use Rattle.group.specs.Powers.{SignedPower, signedPower, sideOf}
+use Rattle.group.specs.Powers.{SignedPower, signedPower}
+use Rattle.group.specs.inside.PowerLists.{sideOf}
 use Rattle.tokens.specs.Tokens.{InRange}
 use Rattle.tokens.specs.declared.Powers.{Powers}
 use Rattle.tokens.specs.declared.token.Power.{Power}

@@ -7,10 +7,12 @@ use mathlib.Core.List.{List, [], _∷_, _++_}
 use Prim.Native.Nat.{ℕ, _+_, _-_, _*_, _≤_, _<_}
 use lib.Dec.{eqb, ltb, leb}
 use lib.ListN.{length, drop}
-use Rattle.numerals.specs.Decimals.{decimal, Digits, NoDigit, smaller, cappedFrom}
+use Rattle.numerals.specs.Decimals.{decimal, Digits}
+use Rattle.numerals.specs.inside.Reading.{NoDigit, smaller, cappedFrom}
 use Rattle.group.specs.Forms.{Side}
 use Rattle.group.specs.Limits.{limit}
-use Rattle.group.specs.Powers.{SignedPower, sideOf}
+use Rattle.group.specs.Powers.{SignedPower}
+use Rattle.group.specs.inside.PowerLists.{sideOf}
 use Rattle.tokens.specs.Tokens.{xSign, space, exponentText, tokenText, InRange}
 use Rattle.tokens.specs.inside.Ends.{AtEnd}
 

@@ -3,7 +3,7 @@
 use mathlib.Core.Path.{_∙_}
 use Prim.Native.Nat.{_-_}
 use native.Mathlib.Omega.{arith}
-use Rattle.group.specs.Powers.{sideOf}
+use Rattle.group.specs.inside.PowerLists.{sideOf}
 use Rattle.forest.proofs.PowerTurns.{Turning, turning-starts, turning-height, turning-ready, turning-more}
 use Rattle.forest.proofs.PowerTurns.{turning-ends}
 use Rattle.forest.proofs.powers.power.Statement.{statement}
