@@ -65,6 +65,7 @@ claims = record {
   no-shorter-word = Lengths.no-shorter-word;
   few-carets = Lengths.few-carets;
   labels-give-length = Lengths.labels-give-length;
+  narrow-sum = Lengths.narrow-sum;
   deleting-ends = Spellings.deleting-ends;
   forms-are-spelled = Spellings.forms-are-spelled;
   spelling-has-length = Spellings.spelling-has-length;

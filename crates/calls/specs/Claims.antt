@@ -14,7 +14,7 @@ use Rattle.claims.specs.Sentences.{LettersAtEnds, BehindIsInFront, InverseExcha
 use Rattle.claims.specs.Trees.{LeavesAndCarets, PairOfForm, EveryPairIsForm, NoRedundantCaret, PairIsMap, ShapesOfTrees}
 use Rattle.claims.specs.Trees.{KindsOfCarets, SymmetricWeights, LengthIsSum}
 use Rattle.claims.specs.Lengths.{LengthIsLeast, LetterChangesByOne, SomeLetterLowers, ZeroIsIdentity, LengthIsReached}
-use Rattle.claims.specs.Lengths.{NoShorterWord, FewCarets, LabelsGiveLength}
+use Rattle.claims.specs.Lengths.{NoShorterWord, FewCarets, LabelsGiveLength, NarrowSum}
 use Rattle.claims.specs.Spellings.{DeletingEnds, FormsAreSpelled, SpellingHasLength}
 use Rattle.claims.specs.Texts.{DecimalsAreNumerals, TextsAreTokens, TextsAreLetters}
 use Rattle.claims.specs.Receipts.{LinesOfBytes, LinesInParts, ServesMetLines, CutKeepsReceipt, ReceiptsOfInput}
@@ -70,7 +70,7 @@ pub record Claims : Type 2 where
   pub kinds-of-carets : KindsOfCarets
   pub symmetric-weights : SymmetricWeights
   pub length-is-sum : LengthIsSum
-  -- The length is the least number of letters: claims, Lengths.
+  -- The length is the least number of letters, and 16 bits hold it: claims, Lengths.
   pub length-is-least : LengthIsLeast
   pub letter-changes-by-one : LetterChangesByOne
   pub some-letter-lowers : SomeLetterLowers
@@ -79,6 +79,7 @@ pub record Claims : Type 2 where
   pub no-shorter-word : NoShorterWord
   pub few-carets : FewCarets
   pub labels-give-length : LabelsGiveLength
+  pub narrow-sum : NarrowSum
   -- Spellings: claims, Spellings.
   pub deleting-ends : DeletingEnds
   pub forms-are-spelled : FormsAreSpelled

@@ -7,6 +7,7 @@ use lib.ListN.{length}
 use Rattle.group.specs.Letters.{Word}
 use Rattle.group.specs.Chains.{Joined}
 use Rattle.group.specs.Forms.{Form, letters}
+use Rattle.group.specs.Limits.{limit}
 use Rattle.group.specs.Products.{formOf}
 use Rattle.group.proofs.Congruence.{joined-sym}
 use Rattle.group.proofs.Products.{form-joined}
@@ -16,13 +17,15 @@ use Rattle.records.specs.Format.{IsRecord}
 use Rattle.records.specs.Reading.{decode}
 use Rattle.records.proofs.Accepted.{record-decoded}
 use Rattle.lengths.specs.Weights.{formLength}
+use Rattle.lengths.proofs.PairBounds.{pair-narrow}
+use Rattle.lengths.proofs.FormBounds.{form-most}
 use Rattle.geodesics.proofs.LabelSums.{form-labels}
 use Rattle.geodesics.proofs.CaretBound.{form-carets}
 use Rattle.geodesics.proofs.WordLengths.{behind-by-one, behind-lowers, zero-length}
 use Rattle.geodesics.proofs.ShortestWords.{shortest-word, shortest-least}
 use Rattle.claims.specs.Calls.{LengthCall, recordBy}
 use Rattle.claims.specs.Lengths.{LengthIsLeast, LetterChangesByOne, SomeLetterLowers, ZeroIsIdentity}
-use Rattle.claims.specs.Lengths.{LengthIsReached, NoShorterWord, FewCarets, LabelsGiveLength}
+use Rattle.claims.specs.Lengths.{LengthIsReached, NoShorterWord, FewCarets, LabelsGiveLength, NarrowSum}
 use Rattle.claims.proofs.Written.{listed-record}
 use Rattle.claims.proofs.TextCalls.{call-listed}
 
@@ -46,6 +49,14 @@ few-carets w = form-carets (formOf w)
 
 pub labels-give-length : LabelsGiveLength
 labels-give-length = form-labels
+
+pub narrow-sum : NarrowSum
+narrow-sum = record {
+  pairs = λ t s same few. omega (arith, pair-narrow t s same few);
+  fits = omega arith;
+  forms = λ f h k. omega (arith, form-most limit f (omega arith) k);
+  literal = λ t s same few. omega (arith, pair-narrow t s same few);
+}
 
 -- The answer of a call on the record of a form is the length of the word that the form writes out.
 answer-length : (s : List ℕ) (c : LengthCall s) (f : Form) → IsRecord s f

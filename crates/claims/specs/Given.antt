@@ -42,7 +42,7 @@ use Rattle.refusals.specs.Outcomes.{Outcome, accepted, refused}
 use Rattle.records.specs.Format.{encode, IsRecord}
 use Rattle.tokens.specs.Texts.{textOf}
 use Rattle.trees.specs.Trees.{Tree, carets}
-use Rattle.trees.specs.Pairs.{SmallestPair, Redundant, SendsLeaves}
+use Rattle.trees.specs.Pairs.{maxCarets, SmallestPair, Redundant, SendsLeaves}
 use Rattle.trees.specs.Shapes.{shape}
 use Rattle.lengths.specs.Kinds.{Kind, IsKind}
 use Rattle.lengths.specs.Weights.{weights}
@@ -89,7 +89,7 @@ pub record PairOfRecord (s p q p′ q′ : List ℕ) (n : ℕ) : Type 0 where
   pub plus : Tree
   pub smallest : SmallestPair form minus plus
   pub number : (carets minus ≡ n) × (carets plus ≡ n)
-  pub few : n ≤ 2 * limit + 1
+  pub few : n ≤ maxCarets
   pub shapes : (take (2 * n + 1) p′ ≡ shape minus) × (take (2 * n + 1) q′ ≡ shape plus)
   pub beyond : (drop (2 * n + 1) p′ ≡ drop (2 * n + 1) p) × (drop (2 * n + 1) q′ ≡ drop (2 * n + 1) q)
   pub same-map : SendsLeaves form minus plus

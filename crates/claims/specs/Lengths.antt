@@ -1,29 +1,33 @@
 -- Fordham's length is the least number of letters (000, section 3.1, lemma 3.1 and theorem 3.2; 01, 'The tree pair and
--- the length'; 001, section 2): a claim each; proofs/Lengths.antt has the proofs, under the same names in small letters
--- with hyphens. What the claims speak of, and where it is defined:
+-- the length'; 001, section 2), and 16 bits hold it (02, [2]): a claim each; proofs/Lengths.antt has the proofs, under
+-- the same names in small letters with hyphens. What the claims speak of, and where it is defined:
 --     LengthCall s       an accepted call of record_to_length on the record s; its answer is `count`   claims, Calls
 --     WordCall w         an accepted call of word_to_record on the bytes of w                          claims, Calls
 --     IsRecord s f       s is the record of the form f                                                records, Format
 --     formOf w           the reduced form of a word                                                   group, Products
 --     letters f          the form f written out in letters                                            group, Forms
 --     Joined, SameMap    a chain joins two words; they move every dyadic point alike                  group
---     formLength f       the sum of the weights of its smallest pair                                  lengths, Weights
+--     pairLength t s     the sum of the weights of a pair of trees                                    lengths, Weights
+--     formLength f       the same of the form's smallest pair                                         lengths, Weights
 --     caretsOf f         N of the form, the carets of each tree                                       trees, Pairs
+--     maxCarets          2 · limit + 1, the largest N within the limits                               trees, Pairs
 --     labelLength        the sum of 001, Table 1, over a pair of trees                                geodesics, Labels
 -- Assumes nothing.
 use mathlib.Core.Path.{_≡_}
 use mathlib.Core.List.{List, [], _∷_, _++_}
 use mathlib.Core.Logic.{_⊎_, _↔_}
-use Prim.Native.Nat.{ℕ, suc, _+_, _≤_}
+use Prim.Native.Nat.{ℕ, suc, _+_, _*_, _<_, _≤_}
 use lib.ListN.{length}
 use Rattle.group.specs.Letters.{Letter, Word}
 use Rattle.group.specs.Chains.{Joined}
 use Rattle.group.specs.Maps.{SameMap}
-use Rattle.group.specs.Forms.{Form, letters}
+use Rattle.group.specs.Forms.{Form, levels, exponentSum, letters}
+use Rattle.group.specs.Limits.{limit}
 use Rattle.group.specs.Products.{formOf}
 use Rattle.records.specs.Format.{IsRecord}
-use Rattle.trees.specs.Pairs.{caretsOf, minusTree, plusTree}
-use Rattle.lengths.specs.Weights.{formLength}
+use Rattle.trees.specs.Trees.{Tree, carets}
+use Rattle.trees.specs.Pairs.{caretsOf, maxCarets, minusTree, plusTree}
+use Rattle.lengths.specs.Weights.{pairLength, formLength}
 use Rattle.geodesics.specs.Labels.{labelLength}
 use Rattle.claims.specs.Calls.{CallOn, recordBy, LengthCall}
 
@@ -71,3 +75,11 @@ FewCarets = (w : Word) → caretsOf (formOf w) ≤ formLength (formOf w) + 2
 -- 001, section 2: the sum of Table 1 over the labels is Fordham's length.
 abbrev pub LabelsGiveLength : Type 0
 LabelsGiveLength = (f : Form) → labelLength (minusTree f) (plusTree f) ≡ formLength f
+
+-- 02, [2]: no pair at the limits passes 8 · limit − 2, a form's none 5 · limit, and 16 bits hold the sum. `literal` is
+-- the request's own number, for the limit 4,096.
+pub record NarrowSum : Type 0 where
+  pub pairs : (t s : Tree) → carets t ≡ carets s → carets t ≤ maxCarets → pairLength t s + 2 ≤ 8 * limit
+  pub fits : 8 * limit < 65536 + 2
+  pub forms : (f : Form) → levels f ≤ limit + 1 → exponentSum f ≤ limit → formLength f ≤ 5 * limit
+  pub literal : (t s : Tree) → carets t ≡ carets s → carets t ≤ maxCarets → pairLength t s ≤ 32772

@@ -4,7 +4,7 @@
 --     IsLeaf t k u, IsCaret t k v      leaf k and caret k by their addresses                       trees, Trees
 --     LeafExponent, HasExponents       the exponents of leaves, by 000, definition 2.7             trees, Exponents
 --     Pair, SmallestPair               trees of one size with the exponents a and b; the smallest  trees, Pairs
---     minusTree f, plusTree f          T− and T+, with caretsOf f carets                           trees, Pairs
+--     minusTree f, plusTree f          T− and T+, with caretsOf f carets, at most maxCarets        trees, Pairs
 --     Redundant, SendsLeaves, InLeaf   000, definition 2.4; the map of a pair                      trees, Pairs
 --     shape t, Node t k u, subtreeEnd  bytes, nodes by number, where a subtree ends                trees, Shapes
 --     IsKind t k x, Kind               caret k is of kind x, by 01's sentences                     lengths, Kinds
@@ -22,7 +22,8 @@ use Rattle.group.specs.Limits.{limit}
 use Rattle.group.specs.Reducing.{Reduced}
 use Rattle.trees.specs.Trees.{Tree, leaf, carets, Address, leaves, IsLeaf, caretPlaces, IsCaret, Subtree}
 use Rattle.trees.specs.Exponents.{leftEdges, rightEdges}
-use Rattle.trees.specs.Pairs.{caretsOf, minusTree, plusTree, Pair, SmallestPair, Redundant, SendsLeaves, InLeaf}
+use Rattle.trees.specs.Pairs.{caretsOf, maxCarets, minusTree, plusTree}
+use Rattle.trees.specs.Pairs.{Pair, SmallestPair, Redundant, SendsLeaves, InLeaf}
 use Rattle.trees.specs.Shapes.{shape, Node, subtreeEnd}
 use Rattle.lengths.specs.Kinds.{Kind, L0, IsKind}
 use Rattle.lengths.specs.Weights.{weight, tableEntry, weights, pairLength}
@@ -42,7 +43,7 @@ pub record PairOfForm : Type 0 where
   pub number : (f : Form) → (carets (minusTree f) ≡ caretsOf f) × (carets (plusTree f) ≡ caretsOf f)
   pub only : (f : Form) (t s : Tree) → SmallestPair f t s → (t ≡ minusTree f) × (s ≡ plusTree f)
   pub of-empty : (minusTree empty ≡ leaf) × (plusTree empty ≡ leaf)
-  pub most : (f : Form) → levels f ≤ limit + 1 → exponentSum f ≤ limit → caretsOf f ≤ 2 * limit + 1
+  pub most : (f : Form) → levels f ≤ limit + 1 → exponentSum f ≤ limit → caretsOf f ≤ maxCarets
 
 -- 000, section 2.5: every two trees of one size are the pair of a form. With `PairOfForm`, `NoRedundantCaret` and
 -- `PairIsMap` the elements are just the maps of pairs of trees: all of the group F.

@@ -37,6 +37,10 @@ pub classes-read : (cs : List Class) → classesOf (classBytes cs) ≡ cs
 classes-read [] = refl
 classes-read (c ∷ cs) = ap₂ (λ (d : Class) (ds : List Class). d ∷ ds) (class-read c) (classes-read cs)
 
+pub classes-count : (bs : List ℕ) → length (classesOf bs) ≡ length bs
+classes-count [] = refl
+classes-count (b ∷ bs) = ap suc (classes-count bs)
+
 pub bytes-length : (cs : List Class) → length (classBytes cs) ≡ length cs
 bytes-length [] = refl
 bytes-length (c ∷ cs) = ap suc (bytes-length cs)

@@ -9,6 +9,8 @@ pub mod CaretKinds
 -- weights
 pub mod Weights
 pub mod ConstantTable
+pub mod PairBounds
+pub mod FormBounds
 -- the steps of the functions
 pub mod ClassBytes
 pub mod ReadSteps

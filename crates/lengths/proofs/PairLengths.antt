@@ -13,8 +13,7 @@ use Rattle.lists.proofs.Writes.{sets-front}
 use Rattle.refusals.specs.Outcomes.{accepted, refused}
 use Rattle.refusals.proofs.Outcomes.{accepted-refused}
 use Rattle.trees.specs.Building.{needed, treeOf}
-use Rattle.trees.specs.Pairs.{caretsOfSides}
-use Rattle.trees.specs.inside.Counting.{maxCarets}
+use Rattle.trees.specs.Pairs.{caretsOfSides, maxCarets}
 use Rattle.trees.specs.Shapes.{shape, shapeSize}
 use Rattle.trees.specs.inside.ShapeReading.{Exact}
 use Rattle.trees.specs.inside.Writing.{pairingOf, tableCarets, pairCarets, WrotePair}

@@ -12,7 +12,7 @@ use lib.ListN.{length, drop, getD, set, drop-of-length-le}
 use lib.Seq.{drop-cons, drop-set-lt}
 use Rattle.lists.specs.inside.Writes.{Writing}
 use Rattle.lists.proofs.Writes.{write-start, write-more, writing-same}
-use Rattle.trees.specs.inside.Counting.{maxCarets}
+use Rattle.trees.specs.Pairs.{maxCarets}
 use Rattle.trees.specs.inside.ShapeReading.{Exact}
 use Rattle.lengths.specs.declared.reader.Amid.{Amid}
 use Rattle.lengths.specs.Classes.{Class}

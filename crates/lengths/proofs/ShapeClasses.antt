@@ -70,12 +70,12 @@ shape-classes (caret x y) =
     classes-left x (shape y) 0 ∙ ap (λ (cs : List Class). leftClasses x ++ (onLeft ∷ cs)) (classes-right y)
 
 -- One class for each caret.
-inside-length : (x : Tree) → length (insideClasses x) ≡ carets x
+pub inside-length : (x : Tree) → length (insideClasses x) ≡ carets x
 inside-length leaf = refl
 inside-length (caret l r) =
     omega (arith, length-append (insideClasses l) (insideOver r ∷ insideClasses r), inside-length l, inside-length r)
 
-left-length : (x : Tree) → length (leftClasses x) ≡ carets x
+pub left-length : (x : Tree) → length (leftClasses x) ≡ carets x
 left-length leaf = refl
 left-length (caret l r) =
     omega (arith, length-append (leftClasses l) (onLeft ∷ insideClasses r), left-length l, inside-length r)

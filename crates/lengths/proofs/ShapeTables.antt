@@ -1,8 +1,8 @@
 -- The shape of a tree at the front of a buffer: its leaves, and the table of the classes of its carets.
 --     shape-readable   the reader may begin             table-classes   the table holds the classes of the shape
---     shapes-sum       the sum over two tables is that over two shapes
+--     shapes-classed   the classes of a pair were written  shapes-sum    the sum over two tables is that over two shapes
 -- Assumes nothing.
-use mathlib.Core.Path.{_≡_, refl, sym, ap, ap₂, _∙_}
+use mathlib.Core.Path.{_≡_, refl, sym, ap, ap₂, subst, _∙_}
 use mathlib.Core.List.{List, [], _∷_, _++_}
 use Prim.Native.Nat.{ℕ, zero, suc, _+_, _≤_}
 use native.Mathlib.Omega.{arith}
@@ -10,7 +10,7 @@ use lib.ListN.{length, take, drop, length-append}
 use lib.Seq.{length-take-le, take-append-le, sets, length-sets}
 use Rattle.lists.proofs.Writes.{sets-front}
 use Rattle.trees.specs.Trees.{Tree, leaf, caret, carets}
-use Rattle.trees.specs.inside.Counting.{maxCarets}
+use Rattle.trees.specs.Pairs.{maxCarets}
 use Rattle.trees.specs.Shapes.{shape, shapeSize}
 use Rattle.trees.specs.inside.ShapeReading.{Exact, readShape}
 use Rattle.trees.proofs.Shapes.{shape-length, exact-shape}
@@ -18,9 +18,18 @@ use Rattle.lengths.specs.Classes.{Class}
 use Rattle.lengths.specs.Kinds.{kindsOf}
 use Rattle.lengths.specs.Weights.{weights}
 use Rattle.lengths.specs.inside.Reading.{shapeClasses}
-use Rattle.lengths.specs.inside.Steps.{classBytes, classesOf, leavesIn, Readable, PairShaped}
+use Rattle.lengths.specs.inside.Steps.{
+  classBytes,
+  classesOf,
+  leavesIn,
+  EndsOutside,
+  Readable,
+  PairShaped,
+  PairClassed,
+}
 use Rattle.lengths.proofs.ShapeClasses.{shape-classes, classes-length}
 use Rattle.lengths.proofs.ClassBytes.{classes-read, bytes-length}
+use Rattle.lengths.proofs.PairBounds.{last-not-inside}
 
 -- A tree has one leaf more than carets.
 leaves-append : (s t : List ℕ) → leavesIn (s ++ t) ≡ leavesIn s + leavesIn t
@@ -67,10 +76,10 @@ module _ (buffer : List ℕ) (n : ℕ) (room : shapeSize n ≤ length buffer)
         ∙ length-sets bytes 0 (classBytes (shapeClasses bytes))
         ∙ length-take-le (shapeSize n) buffer room
 
-    pub table-room : n ≤ length (written ++ drop (shapeSize n) buffer)
+    table-room : n ≤ length (written ++ drop (shapeSize n) buffer)
     table-room = omega (arith, size, length-append written (drop (shapeSize n) buffer))
 
-    pub table-classes : classesOf (take n (written ++ drop (shapeSize n) buffer)) ≡ shapeClasses bytes
+    table-classes : classesOf (take n (written ++ drop (shapeSize n) buffer)) ≡ shapeClasses bytes
     table-classes =
         let cs = classBytes (shapeClasses bytes) in
         let count : length cs ≡ n = bytes-length (shapeClasses bytes) ∙ classes-count in
@@ -79,6 +88,25 @@ module _ (buffer : List ℕ) (n : ℕ) (room : shapeSize n ≤ length buffer)
         ∙ ap (take n) e
         ∙ sets-front cs bytes n count (omega (arith, length-take-le (shapeSize n) buffer room)))
         ∙ classes-read (shapeClasses bytes)
+
+    -- The last of them is not that of an interior caret.
+    table-ends : EndsOutside (classesOf (take n (written ++ drop (shapeSize n) buffer)))
+    table-ends =
+        let tree = readShape bytes in
+        subst EndsOutside (sym (shape-classes tree) ∙ ap shapeClasses same ∙ sym table-classes) (last-not-inside tree)
+
+-- The classes of a pair were written over its shapes: its last carets are not interior.
+pub shapes-classed : {minus plus : List ℕ} {n : ℕ} → PairShaped minus plus n → {m p : List ℕ}
+    → m ≡ sets (take (shapeSize n) minus) 0 (classBytes (shapeClasses (take (shapeSize n) minus)))
+    → p ≡ sets (take (shapeSize n) plus) 0 (classBytes (shapeClasses (take (shapeSize n) plus)))
+    → PairClassed (m ++ drop (shapeSize n) minus) (p ++ drop (shapeSize n) plus) n
+shapes-classed {minus} {plus} {n} h em ep = record {
+  few = h .few;
+  minus-room = table-room minus n (h .minus-room) (h .minus-exact) em;
+  plus-room = table-room plus n (h .plus-room) (h .plus-exact) ep;
+  minus-ends = table-ends minus n (h .minus-room) (h .minus-exact) em;
+  plus-ends = table-ends plus n (h .plus-room) (h .plus-exact) ep;
+}
 
 -- The sum over the tables of a pair is that over its shapes.
 pub shapes-sum : {minus plus : List ℕ} {n : ℕ} → PairShaped minus plus n → {m p : List ℕ} {r : ℕ}

@@ -7,7 +7,7 @@ use native.Mathlib.Omega.{arith}
 use lib.ListN.{length, drop, getD, set, length-set}
 use lib.Seq.{sets, drop-set-lt}
 use Rattle.lists.proofs.Writes.{writing-length}
-use Rattle.trees.specs.inside.Counting.{maxCarets}
+use Rattle.trees.specs.Pairs.{maxCarets}
 use Rattle.lengths.specs.declared.reader.Place.{Place}
 use Rattle.lengths.specs.Classes.{Class}
 use Rattle.lengths.specs.inside.Reading.{classesFrom, sideClasses, nextOnSide}

@@ -1,16 +1,17 @@
 -- The sum of the weights, counted from the last caret down: the laws of that loop.
 --     rest n k bytes   the classes of the carets k to n − 1         Summed   their weights are summed
+--     sum-most         how large the sum is                         sum-fits   16 bits hold it
 -- Assumes nothing.
 use mathlib.Core.Path.{_≡_, refl, sym, ap, ap₂, _∙_}
 use mathlib.Core.Bool as Tests
 use mathlib.Core.Bool.{Bool, true, false}
 use mathlib.Core.List.{List, [], _∷_}
-use Prim.Native.Nat.{ℕ, zero, suc, _+_, _*_, _<_, _≤_}
+use Prim.Native.Nat.{ℕ, zero, suc, _+_, _-_, _*_, _<_, _≤_}
 use native.Mathlib.Omega.{arith}
+use native.Mathlib.Decide.{decLt}
 use lib.Dec.{leb}
-use lib.ListN.{length, take, drop, getD}
+use lib.ListN.{length, take, drop, getD, length-drop}
 use lib.Seq.{length-take-le, drop-cons, drop-length, getD-take}
-use Rattle.trees.specs.inside.Counting.{maxCarets}
 use Rattle.lengths.specs.declared.table.CaretKind.{CaretKind}
 use Rattle.lengths.specs.Classes.{Class}
 use Rattle.lengths.specs.Kinds.{
@@ -23,28 +24,21 @@ use Rattle.lengths.specs.Kinds.{
   kindsOf,
 }
 use Rattle.lengths.specs.Weights.{weight, weights}
-use Rattle.lengths.specs.inside.Steps.{classOf, classesOf, kindNamed}
-use Rattle.lengths.proofs.Weights.{weight-most}
-use Rattle.lengths.proofs.ClassBytes.{inside-test}
+use Rattle.lengths.specs.inside.Steps.{classOf, classesOf, kindNamed, EndsOutside, PairClassed}
+use Rattle.lengths.proofs.PairBounds.{weightsOf, later-most}
+use Rattle.lengths.proofs.ClassBytes.{inside-test, classes-count}
 
 -- The classes of the carets k to n − 1, from a table of classes.
 abbrev rest : (n k : ℕ) → List ℕ → List Class
 rest n k bytes = classesOf (drop k (take n bytes))
 
--- The sum of the weights of carets behind caret 0, by their classes.
-abbrev weightsOf : (cs ds : List Class) → ℕ
-weightsOf cs ds = weights (laterKinds cs) (laterKinds ds)
-
 -- The weights of the carets k to n − 1 are summed; caret 0 is left out. Of both trees it is known whether caret k is
 -- interior, and whether it or some later one is.
 pub record Summed (minus plus : List ℕ) (n k sum : ℕ) (m-next m-later p-next p-later : Bool) : Type 0 where
-  pub few : n ≤ maxCarets
-  pub minus-room : n ≤ length minus
-  pub plus-room : n ≤ length plus
+  pub classed : PairClassed minus plus n
   pub within : k ≤ n
   pub some : 0 < n → 0 < k
   pub sums : sum ≡ weightsOf (rest n k minus) (rest n k plus)
-  pub bound : sum + 4 * k ≤ 4 * n
   pub minus-next : m-next ≡ nextInside (rest n k minus)
   pub minus-later : m-later ≡ someInside (rest n k minus)
   pub plus-next : p-next ≡ nextInside (rest n k plus)
@@ -55,19 +49,16 @@ rest-none n bytes h =
     ap (λ (k : ℕ). classesOf (drop k (take n bytes))) (sym (length-take-le n bytes h))
     ∙ ap classesOf (drop-length (take n bytes))
 
-pub sum-start : {minus plus : List ℕ} {n : ℕ} → n ≤ maxCarets → n ≤ length minus → n ≤ length plus
+pub sum-start : {minus plus : List ℕ} {n : ℕ} → PairClassed minus plus n
     → Summed minus plus n n 0 false false false false
-sum-start {minus} {plus} {n} few hm hp =
-    let no-minus = rest-none n minus hm in
-    let no-plus = rest-none n plus hp in
+sum-start {minus} {plus} {n} pair =
+    let no-minus = rest-none n minus (pair .minus-room) in
+    let no-plus = rest-none n plus (pair .plus-room) in
     record {
-      few = few;
-      minus-room = hm;
-      plus-room = hp;
+      classed = pair;
       within = omega arith;
       some = λ h. h;
       sums = sym (ap₂ weightsOf no-minus no-plus);
-      bound = omega arith;
       minus-next = sym (ap nextInside no-minus);
       minus-later = sym (ap someInside no-minus);
       plus-next = sym (ap nextInside no-plus);
@@ -107,10 +98,10 @@ module _ {minus plus : List ℕ} {n j sum : ℕ} {m-next m-later p-next p-later 
   y = getD plus i 0
 
   minus-cut : rest n i minus ≡ classOf x ∷ rest n j minus
-  minus-cut = rest-more minus (h .minus-room) (h .within) at
+  minus-cut = rest-more minus (h .classed .minus-room) (h .within) at
 
   plus-cut : rest n i plus ≡ classOf y ∷ rest n j plus
-  plus-cut = rest-more plus (h .plus-room) (h .within) at
+  plus-cut = rest-more plus (h .classed .plus-room) (h .within) at
 
   minus-kind : kindNamed a ≡ kindOf (classOf x) (nextInside (rest n j minus)) (someInside (rest n j minus))
   minus-kind = is-a ∙ ap₂ (kindOf (classOf x)) (h .minus-next) (h .minus-later)
@@ -124,18 +115,59 @@ module _ {minus plus : List ℕ} {n j sum : ℕ} {m-next m-later p-next p-later 
       let total : sum + w ≡ weightsOf (classOf x ∷ rest n j minus) (classOf y ∷ rest n j plus) =
       omega (arith, h .sums, weighs, ap₂ weight minus-kind plus-kind) in
       record {
-        few = h .few;
-        minus-room = h .minus-room;
-        plus-room = h .plus-room;
+        classed = h .classed;
         within = omega (arith, h .within);
         some = λ _. left;
         sums = total ∙ sym (ap₂ weightsOf minus-cut plus-cut);
-        bound = omega (arith, h .bound, weighs, weight-most (kindNamed a) (kindNamed b));
         minus-next = next-more x minus-cut;
         minus-later = later-more x (h .minus-later) minus-cut;
         plus-next = next-more y plus-cut;
         plus-later = later-more y (h .plus-later) plus-cut;
       }
+
+-- From any place on, the classes end as they all do, and there is one for each caret.
+ends-rest : (k : ℕ) (bytes : List ℕ) → EndsOutside (classesOf bytes) → EndsOutside (classesOf (drop k bytes))
+ends-rest zero bytes h = h
+ends-rest (suc k) [] h = tt
+ends-rest (suc zero) (b ∷ []) h = tt
+ends-rest (suc (suc k)) (b ∷ []) h = tt
+ends-rest (suc k) (b ∷ c ∷ bytes) h = ends-rest k (c ∷ bytes) h
+
+rest-length : (n k : ℕ) (bytes : List ℕ) → n ≤ length bytes → length (rest n k bytes) ≡ n - k
+rest-length n k bytes h =
+    classes-count (drop k (take n bytes))
+    ∙ length-drop k (take n bytes)
+    ∙ ap (λ (m : ℕ). m - k) (length-take-le n bytes h)
+
+-- The sum so far: at most 2 for the last caret and 4 for each other.
+pub sum-most : {minus plus : List ℕ} {n k sum : ℕ} {m-next m-later p-next p-later : Bool}
+    → Summed minus plus n k sum m-next m-later p-next p-later → k < n → sum + 4 * k + 2 ≤ 4 * n
+sum-most {minus} {plus} {n} {k} {sum} h lt =
+    let pair = h .classed in
+    go (rest n k minus) (rest n k plus) (h .sums) (rest-length n k minus (pair .minus-room))
+    (rest-length n k plus (pair .plus-room)) (ends-rest k (take n minus) (pair .minus-ends))
+    (ends-rest k (take n plus) (pair .plus-ends))
+  where
+    go : (cs ds : List Class) → sum ≡ weightsOf cs ds → length cs ≡ n - k → length ds ≡ n - k → EndsOutside cs
+        → EndsOutside ds → sum + 4 * k + 2 ≤ 4 * n
+    go (c ∷ cs) (d ∷ ds) e hc hd ec ed = omega (arith, e, later-most c d cs ds (omega arith) ec ed)
+    go (c ∷ cs) [] e hc hd ec ed = absurd (omega arith)
+    go [] ds e hc hd ec ed = absurd (omega arith)
+
+-- 16 bits hold it at every caret: caret 0 is left out, and before the last caret the sum is 0.
+pub sum-fits : {minus plus : List ℕ} {n k sum : ℕ} {m-next m-later p-next p-later : Bool}
+    → Summed minus plus n k sum m-next m-later p-next p-later → sum < 65536
+sum-fits {minus} {plus} {n} {k} {sum} h = go (decLt k n)
+  where
+    none : (cs ds : List Class) → length cs ≡ 0 → weightsOf cs ds ≡ 0
+    none [] ds e = refl
+    none (c ∷ cs) ds e = absurd (omega arith)
+
+    go : Dec (k < n) → sum < 65536
+    go (yes lt) = omega (arith, sum-most h lt, h .some (omega arith), h .classed .few)
+    go (no all) =
+        let count = rest-length n k minus (h .classed .minus-room) in
+        omega (arith, h .sums, none (rest n k minus) (rest n k plus) (omega (arith, count)))
 
 -- Caret 0 weighs nothing.
 weights-none : (xs : List Kind) → weights xs [] ≡ 0

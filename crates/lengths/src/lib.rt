@@ -1,7 +1,7 @@
 // The length of a form: Fordham's sum over the carets of its smallest tree pair.
 ghost use mathlib.Core.Path.{_≡_};
 ghost use lib.ListN.{length};
-ghost use Rattle.trees.specs.inside.Counting.{maxCarets};
+ghost use Rattle.trees.specs.Pairs.{maxCarets};
 ghost use Rattle.trees.specs.Shapes.{shapeSize};
 ghost use Rattle.lengths.specs.inside.Contracts.{lengthOf, tableLength};
 ghost use Rattle.lengths.specs.inside.Steps.{lengthWithin, Found};

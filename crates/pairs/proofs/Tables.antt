@@ -15,8 +15,7 @@ use Rattle.refusals.specs.Outcomes.{accepted}
 use Rattle.records.specs.Format.{Within}
 use Rattle.records.proofs.ClearedTables.{Cleared, tableOf, within-levels, table-length, table-at}
 use Rattle.trees.specs.Building.{treeOf}
-use Rattle.trees.specs.Pairs.{caretsOfSides, caretsOf}
-use Rattle.trees.specs.inside.Counting.{maxCarets}
+use Rattle.trees.specs.Pairs.{caretsOfSides, caretsOf, maxCarets}
 use Rattle.trees.specs.inside.Writing.{tableCarets}
 use Rattle.trees.proofs.Rows.{tree-same}
 use Rattle.trees.proofs.Needed.{needed-same}

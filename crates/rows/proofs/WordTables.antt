@@ -19,8 +19,7 @@ use Rattle.group.proofs.Sizes.{form-sum, form-levels, form-index}
 use Rattle.refusals.specs.Outcomes.{Outcome, accepted, then}
 use Rattle.trees.specs.Trees.{Tree}
 use Rattle.trees.specs.Building.{treeOf}
-use Rattle.trees.specs.Pairs.{caretsOfSides, caretsOf}
-use Rattle.trees.specs.inside.Counting.{maxCarets}
+use Rattle.trees.specs.Pairs.{caretsOfSides, caretsOf, maxCarets}
 use Rattle.trees.specs.inside.Writing.{tableCarets}
 use Rattle.trees.proofs.Rows.{tree-same}
 use Rattle.trees.proofs.Needed.{needed-same}

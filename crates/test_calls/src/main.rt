@@ -13,6 +13,7 @@ mod printing;
 mod reading;
 mod runs;
 mod spheres;
+mod tables;
 
 // The bytes of a line in which the name of the call stands.
 const NAME: usize = 8;
@@ -39,6 +40,7 @@ fn answer(line: &[u8], given: &mut [u8; GIVEN], out: &mut [u8; OUTPUT]) {
     match kind {
         b'#' => {}
         b'g' => spheres::spheres(),
+        b'm' => tables::measure(bytes, s),
         b'r' => runs::receipts(bytes, s, m, out),
         _ => memory::lend(kind, bytes, s, parts::front(&other, m), s2, out),
     }

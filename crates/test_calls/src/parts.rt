@@ -24,6 +24,14 @@ pub fn front_mut(s: &mut [u8], n: usize) -> &mut [u8] {
     s
 }
 
+// The first n entries, or all.
+pub fn entries(s: &[u16], n: usize) -> &[u16] {
+    if n < s.len() {
+        return &s[0..n];
+    }
+    s
+}
+
 // The first n entries, or all, to be written.
 pub fn entries_mut(s: &mut [u16], n: usize) -> &mut [u16] {
     if n < s.len() {

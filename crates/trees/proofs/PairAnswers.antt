@@ -18,8 +18,7 @@ use Rattle.refusals.proofs.Outcomes.{accepted-same, accepted-refused}
 use Rattle.trees.specs.declared.Pairing.{Pairing}
 use Rattle.trees.specs.declared.Pairing.the-variants.{Carets, Refused, Unfit}
 use Rattle.trees.specs.Building.{treeOf}
-use Rattle.trees.specs.Pairs.{caretsOfSides}
-use Rattle.trees.specs.inside.Counting.{maxCarets}
+use Rattle.trees.specs.Pairs.{caretsOfSides, maxCarets}
 use Rattle.trees.specs.Shapes.{shape, shapeSize}
 use Rattle.trees.specs.inside.Writing.{pairingOf, tableCarets, pairCarets, WrotePair}
 use Rattle.trees.specs.inside.Steps.{ShapeFits}

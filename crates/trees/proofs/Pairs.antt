@@ -97,15 +97,18 @@ only-pair f t s p = (minus-is, plus-is)
 pub empty-pair : (minusTree empty ≡ leaf) × (plusTree empty ≡ leaf)
 empty-pair = (refl, refl)
 
--- A side has one exponent for each level, and they sum to at most the sum of both sides.
+-- A side has one exponent for each level, and those of both sides sum to the form's.
 side-length : (s : Side) (f : Form) → length (exponents s f) ≡ levels f
 side-length s empty = refl
 side-length s (level b a f) = ap suc (side-length s f)
 
+pub sides-total : (f : Form) → total (exponents bSide f) + total (exponents aSide f) ≡ exponentSum f
+sides-total empty = refl
+sides-total (level b a f) = omega (arith, sides-total f)
+
 side-total : (s : Side) (f : Form) → total (exponents s f) ≤ exponentSum f
-side-total s empty = omega arith
-side-total bSide (level b a f) = omega (arith, side-total bSide f)
-side-total aSide (level b a f) = omega (arith, side-total aSide f)
+side-total bSide f = omega (arith, sides-total f)
+side-total aSide f = omega (arith, sides-total f)
 
 -- At most 2l + 1 carets, where no index is above l and the exponents sum to at most l.
 pub carets-limit : (l : ℕ) (f : Form) → levels f ≤ suc l → exponentSum f ≤ l → caretsOf f ≤ 2 * l + 1

@@ -14,7 +14,7 @@ use Rattle.lists.proofs.Totals.{same-replicate}
 use Rattle.copying.specs.inside.Copying.{Copied}
 use Rattle.trees.specs.Trees.{carets}
 use Rattle.trees.specs.Building.{needed, treeOf}
-use Rattle.trees.specs.inside.Counting.{maxCarets}
+use Rattle.trees.specs.Pairs.{maxCarets}
 use Rattle.trees.specs.Shapes.{shape, shapeSize}
 use Rattle.trees.specs.inside.Writing.{nodesFrom}
 use Rattle.trees.specs.inside.Steps.{NodesFit, ShapeFits}

@@ -5,10 +5,11 @@
 -- Assumes nothing.
 use mathlib.Core.Path.{_≡_}
 use mathlib.Core.List.{List, [], _∷_, _++_}
-use Prim.Native.Nat.{ℕ, suc, _≤_, max}
+use Prim.Native.Nat.{ℕ, suc, _+_, _*_, _≤_, max}
 use Rattle.group.specs.Points.{Digit, 𝟎, 𝟏, below1, SamePoint}
 use Rattle.group.specs.Maps.{mapOf}
 use Rattle.group.specs.Forms.{bSide, aSide, Form, exponent, exponents, letters}
+use Rattle.group.specs.Limits.{limit}
 use Rattle.trees.specs.Trees.{Tree, carets, Address, IsLeaf}
 use Rattle.trees.specs.Exponents.{HasExponents}
 use Rattle.trees.specs.Building.{needed, treeOf}
@@ -20,6 +21,10 @@ caretsOfSides b a = max (needed 0 b) (needed 0 a)
 -- N of a form.
 abbrev pub caretsOf : Form → ℕ
 caretsOf f = caretsOfSides (exponents bSide f) (exponents aSide f)
+
+-- N never exceeds this.
+abbrev pub maxCarets : ℕ
+maxCarets = 2 * limit + 1
 
 -- T− has the exponents a, T+ the exponents b.
 abbrev pub minusTree : Form → Tree

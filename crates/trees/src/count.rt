@@ -4,8 +4,7 @@ ghost use Prim.Native.Nat.{_≤_, max};
 ghost use lib.ListN.{length};
 ghost use Rattle.trees.specs.Building.{needed as neededFrom};
 ghost use Rattle.trees.specs.inside.Counting.{raised as raisedBy};
-ghost use Rattle.trees.specs.Pairs.{caretsOfSides};
-ghost use Rattle.trees.specs.inside.Counting.{maxCarets};
+ghost use Rattle.trees.specs.Pairs.{caretsOfSides, maxCarets};
 ghost use Rattle.trees.specs.inside.Steps.{Unused};
 use refusals::GeneratorIndex;
 

@@ -4,7 +4,7 @@
 --     lengthWithin   the length of a pair whose shapes have room in buffers of some size
 -- Assumes nothing.
 use mathlib.Core.Path.{_≡_}
-use mathlib.Core.Bool.{cond}
+use mathlib.Core.Bool.{cond, false}
 use mathlib.Core.List.{List, [], _∷_}
 use Prim.Native.Nat.{ℕ, zero, suc, _+_, _≤_, _<_}
 use lib.ListN.{length, take, drop}
@@ -13,7 +13,7 @@ use lib.Seq.{sets}
 use Rattle.lists.specs.inside.Writes.{Writing}
 use Rattle.refusals.specs.Outcomes.{Outcome, accepted, refused, then}
 use Rattle.trees.specs.Building.{treeOf}
-use Rattle.trees.specs.inside.Counting.{maxCarets}
+use Rattle.trees.specs.Pairs.{maxCarets}
 use Rattle.trees.specs.Shapes.{shapeSize}
 use Rattle.trees.specs.inside.ShapeReading.{Exact}
 use Rattle.trees.specs.inside.Writing.{tableCarets}
@@ -24,7 +24,7 @@ use Rattle.lengths.specs.declared.table.CaretKind.the-variants as Named
 use Rattle.lengths.specs.declared.reader.Amid.{Amid}
 use Rattle.lengths.specs.declared.reader.Place.{Place}
 use Rattle.lengths.specs.Classes.{Class, onLeft, onRight, insideLeaf, insideCaret}
-use Rattle.lengths.specs.Kinds.{Kind, LL, RI, RN, R0, I0, IR}
+use Rattle.lengths.specs.Kinds.{Kind, LL, RI, RN, R0, I0, IR, inside}
 use Rattle.lengths.specs.Weights.{pairLength}
 use Rattle.lengths.specs.inside.Reading.{classesFrom, nextOnSide, pendingClasses}
 use Rattle.lengths.specs.inside.Contracts.{lengthOf, tableLength}
@@ -145,6 +145,20 @@ pub record PairShaped (minus plus : List ℕ) (n : ℕ) : Type 0 where
   pub plus-room : shapeSize n ≤ length plus
   pub minus-exact : Exact (take (shapeSize n) minus) 1
   pub plus-exact : Exact (take (shapeSize n) plus) 1
+
+-- The last class is not that of an interior caret.
+abbrev pub EndsOutside : List Class → Type 0
+EndsOutside [] = Unit {0}
+EndsOutside (c ∷ []) = inside c ≡ false
+EndsOutside (c ∷ d ∷ cs) = EndsOutside (d ∷ cs)
+
+-- The classes of a pair with n carets stand at the front of two tables; the last caret of neither tree is interior.
+pub record PairClassed (minus plus : List ℕ) (n : ℕ) : Type 0 where
+  pub few : n ≤ maxCarets
+  pub minus-room : n ≤ length minus
+  pub plus-room : n ≤ length plus
+  pub minus-ends : EndsOutside (classesOf (take n minus))
+  pub plus-ends : EndsOutside (classesOf (take n plus))
 
 -- The length of the smallest pair with the exponents of two tables; unfit if its shapes have more than `size` bytes.
 abbrev pub lengthWithin : (size : ℕ) (b a : List ℕ) → Outcome ℕ

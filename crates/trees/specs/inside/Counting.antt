@@ -1,11 +1,6 @@
 -- How N is counted by the code.
 -- Inside: no claim reaches these definitions; a reader of the claims need not believe them. Assumes nothing.
-use Prim.Native.Nat.{ℕ, zero, suc, _+_, _*_, max}
-use Rattle.group.specs.Limits.{limit}
-
--- N never exceeds this.
-abbrev pub maxCarets : ℕ
-maxCarets = 2 * limit + 1
+use Prim.Native.Nat.{ℕ, zero, suc, _+_, max}
 
 -- The carets that exponents need, with one exponent in front of the others: `sum` is that of all, `behind` what the
 -- others need.

@@ -7,7 +7,7 @@ use Rattle.lists.specs.Entries.{total}
 use Rattle.lists.specs.inside.Writes.{Writing}
 use Rattle.trees.specs.declared.writer.Place.{Place}
 use Rattle.trees.specs.Building.{needed}
-use Rattle.trees.specs.inside.Counting.{maxCarets}
+use Rattle.trees.specs.Pairs.{maxCarets}
 use Rattle.trees.specs.Shapes.{shapeSize}
 use Rattle.trees.specs.inside.Writing.{nodesFrom}
 

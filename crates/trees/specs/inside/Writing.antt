@@ -13,8 +13,7 @@ use Rattle.refusals.specs.Outcomes.{Outcome, accepted, refused, after, then, re
 use Rattle.trees.specs.declared.Pairing.{Pairing}
 use Rattle.trees.specs.declared.Pairing.the-variants.{Carets, Refused, Unfit}
 use Rattle.trees.specs.Building.{treeOf}
-use Rattle.trees.specs.Pairs.{caretsOfSides}
-use Rattle.trees.specs.inside.Counting.{maxCarets}
+use Rattle.trees.specs.Pairs.{caretsOfSides, maxCarets}
 use Rattle.trees.specs.Shapes.{shape, shapeSize}
 
 -- The nodes from a leaf on, by the exponents of the leaves but the last, with `o` interior subtrees still to come: the

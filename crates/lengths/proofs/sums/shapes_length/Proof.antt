@@ -2,7 +2,7 @@
 use mathlib.Core.Path.{sym}
 use lib.Seq.{length-take-le}
 use borrow.Author.Needs.{needs}
-use Rattle.lengths.proofs.ShapeTables.{shape-readable, table-room, shapes-sum}
+use Rattle.lengths.proofs.ShapeTables.{shape-readable, shapes-classed, shapes-sum}
 use Rattle.lengths.proofs.sums.shapes_length.Statement.{statement}
 use Rattle.lengths.proofs.sums.shapes_length.Tie as tie
 
@@ -42,13 +42,10 @@ sum-weights-requires : tie.Need-sum-weights-requires
 sum-weights-requires c κs =
     let at-read-classes2 = c .before .before .before .before in
     let at-read-classes = at-read-classes2 .before .before .before .before in
-    let pair = start at-read-classes .pre in (
-      pair .few,
-      (
-        table-room _ _ (pair .minus-room) (pair .minus-exact) (at-read-classes .read-classes .ensures),
-        table-room _ _ (pair .plus-room) (pair .plus-exact) (at-read-classes2 .read-classes2 .ensures),
-      ),
-    )
+    let pair = start at-read-classes .pre in
+    let minus = at-read-classes .read-classes .ensures in
+    let plus = at-read-classes2 .read-classes2 .ensures in
+    shapes-classed pair minus plus
 
 same-length : tie.Need-same-length
 same-length c = search needs

@@ -1,7 +1,7 @@
 -- `sum_weights` meets its contract: the weights of the carets from k on are summed. Assumes nothing.
 use native.Mathlib.Omega.{arith}
 use borrow.Author.Needs.{needs}
-use Rattle.lengths.proofs.SumSteps.{Summed, sum-start, sum-more, sum-done}
+use Rattle.lengths.proofs.SumSteps.{Summed, sum-start, sum-more, sum-fits, sum-done}
 use Rattle.lengths.proofs.sums.sum_weights.Statement.{statement}
 use Rattle.lengths.proofs.sums.sum_weights.Tie as tie
 
@@ -12,9 +12,7 @@ abbrev μ-loop : tie.MeasureT-loop
 μ-loop minus plus n k₀ sum₀ mn₀ ml₀ pn₀ pl₀ k sum mn ml pn pl = k
 
 loop-holds : tie.Need-loop-holds Inv-loop μ-loop
-loop-holds c =
-    let pre = c .before .before .pre in
-    sum-start (pre .0) (pre .1 .0) (pre .1 .1)
+loop-holds c = sum-start (c .before .before .pre)
 
 sub-k : tie.Need-sub-k Inv-loop μ-loop
 sub-k c = omega arith
@@ -22,12 +20,12 @@ sub-k c = omega arith
 shared-slice-read-x : tie.Need-shared-slice-read-x Inv-loop μ-loop
 shared-slice-read-x c =
     let inv = c .before .before .loop .inv in
-    omega (arith, inv .within, inv .minus-room)
+    omega (arith, inv .within, inv .classed .minus-room)
 
 shared-slice-read-y : tie.Need-shared-slice-read-y Inv-loop μ-loop
 shared-slice-read-y c =
     let inv = c .before .before .before .loop .inv in
-    omega (arith, inv .within, inv .plus-room)
+    omega (arith, inv .within, inv .classed .plus-room)
 
 kind-requires : tie.Need-kind-requires Inv-loop μ-loop
 kind-requires c κs = search needs
@@ -43,8 +41,13 @@ cast-sum c = search needs
 
 add-sum : tie.Need-add-sum Inv-loop μ-loop
 add-sum c =
-    let inv = c .before .before .before .before .before .before .loop .inv in
-    omega (arith, inv .bound, inv .few)
+    let at-kind2 = c .before in
+    let at-kind = at-kind2 .before in
+    let inv = at-kind .before .before .before .before .loop .inv in
+    let more =
+    sum-more inv (at-kind .kind .result) (at-kind2 .kind2 .result) (omega arith) (omega arith) (at-kind .kind .ensures)
+    (at-kind2 .kind2 .ensures) (c .weight .ensures) in
+    omega (arith, sum-fits more)
 
 loop-less : tie.Need-loop-less Inv-loop μ-loop
 loop-less c = omega arith
@@ -55,6 +58,9 @@ loop-again c =
     let at-kind = at-kind2 .before in
     sum-more (at-kind .before .before .before .before .loop .inv) (at-kind .kind .result) (at-kind2 .kind2 .result)
     (omega arith) (omega arith) (at-kind .kind .ensures) (at-kind2 .kind2 .ensures) (c .weight .ensures)
+
+cast-result : tie.Need-cast-result Inv-loop μ-loop
+cast-result c = omega (arith, sum-fits (c .before .loop .inv))
 
 returns : tie.Need-returns Inv-loop μ-loop
 returns c = sum-done (c .before .loop .inv) (omega arith)
@@ -76,4 +82,5 @@ sum-weights-spec =
     add-sum
     loop-less
     loop-again
+    cast-result
     returns)
