@@ -122,7 +122,7 @@ thompson_answer thompson_record_to_tree_pair(const uint8_t *record, size_t recor
 
 /* Record to length, Fordham's sum over the carets of the tree pair. Nothing is written.
    Lent: the record.
-   Value: the length.
+   Value: the length, at most 20,480: 16 bits hold it.
    Refusals, in this order: 3, 4, 5. */
 thompson_answer thompson_record_to_length(const uint8_t *record, size_t record_size);
 

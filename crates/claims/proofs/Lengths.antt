@@ -12,10 +12,12 @@ use Rattle.group.specs.Products.{formOf}
 use Rattle.group.proofs.Congruence.{joined-sym}
 use Rattle.group.proofs.Products.{form-joined}
 use Rattle.group.proofs.Theorems.{the-form-joined, forms↔joined, joined↔maps}
+use Rattle.refusals.specs.Outcomes.{accepted}
 use Rattle.refusals.proofs.Outcomes.{accepted-same, valued-accepted}
 use Rattle.records.specs.Format.{IsRecord}
 use Rattle.records.specs.Reading.{decode}
-use Rattle.records.proofs.Accepted.{record-decoded}
+use Rattle.records.proofs.Accepted.{decode-form, record-decoded}
+use Rattle.records.proofs.ClearedTables.{within-levels}
 use Rattle.lengths.specs.Weights.{formLength}
 use Rattle.lengths.proofs.PairBounds.{pair-narrow}
 use Rattle.lengths.proofs.FormBounds.{form-most}
@@ -50,11 +52,19 @@ few-carets w = form-carets (formOf w)
 pub labels-give-length : LabelsGiveLength
 labels-give-length = form-labels
 
+-- The form of a record that the call accepts: the answer is its length.
+accepted-form : (s : List ℕ) (c : LengthCall s) → (f : Form) × (decode s ≡ accepted f) × (formLength f ≡ c .count)
+accepted-form s c = valued-accepted formLength (decode s) (c .count) (sym (c .contract .result) ∙ c .taken)
+
 pub narrow-sum : NarrowSum
 narrow-sum = record {
   pairs = λ t s same few. omega (arith, pair-narrow t s same few);
   fits = omega arith;
   forms = λ f h k. omega (arith, form-most limit f (omega arith) k);
+  answers = λ s c.
+      let x = accepted-form s c in
+      let g = decode-form s (x .0) (x .1) in
+      omega (arith, x .2, form-most limit (x .0) (within-levels (x .0) (g .0) (g .1)) (g .1 .sum));
   literal = λ t s same few. omega (arith, pair-narrow t s same few);
 }
 
@@ -62,7 +72,7 @@ narrow-sum = record {
 answer-length : (s : List ℕ) (c : LengthCall s) (f : Form) → IsRecord s f
     → c .count ≡ formLength (formOf (letters f))
 answer-length s c f h =
-    let x = valued-accepted formLength (decode s) (c .count) (sym (c .contract .result) ∙ c .taken) in
+    let x = accepted-form s c in
     let same : x .0 ≡ f = accepted-same (sym (x .1) ∙ record-decoded s f h) in
     let own : f ≡ formOf (letters f) =
     the-form-joined (letters f) f (h .reduced) (h .trimmed) (forms↔joined (letters f) (letters f) .0 refl) in

@@ -76,10 +76,11 @@ FewCarets = (w : Word) → caretsOf (formOf w) ≤ formLength (formOf w) + 2
 abbrev pub LabelsGiveLength : Type 0
 LabelsGiveLength = (f : Form) → labelLength (minusTree f) (plusTree f) ≡ formLength f
 
--- 02, [2]: no pair at the limits passes 8 · limit − 2, a form's none 5 · limit, and 16 bits hold the sum. `literal` is
--- the request's own number, for the limit 4,096.
+-- 02, [2]: no two trees of one size at the limits have a length above 8 · limit − 2, which 16 bits hold; no form at the
+-- limits has one above 5 · limit, and no call answers more. `literal` is the request's own number, for the limit 4,096.
 pub record NarrowSum : Type 0 where
   pub pairs : (t s : Tree) → carets t ≡ carets s → carets t ≤ maxCarets → pairLength t s + 2 ≤ 8 * limit
   pub fits : 8 * limit < 65536 + 2
   pub forms : (f : Form) → levels f ≤ limit + 1 → exponentSum f ≤ limit → formLength f ≤ 5 * limit
+  pub answers : (s : List ℕ) (c : LengthCall s) → c .count ≤ 5 * limit
   pub literal : (t s : Tree) → carets t ≡ carets s → carets t ≤ maxCarets → pairLength t s ≤ 32772

@@ -4,7 +4,7 @@
 --     interiors cs     how many of the classes are interior          interior-total   those of a tree
 --     form-most        at most 5 · l, at every limit l
 -- Assumes nothing.
-use mathlib.Core.Path.{_≡_, _∙_}
+use mathlib.Core.Path.{_≡_}
 use mathlib.Core.List.{List, [], _∷_, _++_}
 use Prim.Native.Nat.{ℕ, suc, _+_, _*_, _≤_}
 use native.Mathlib.Omega.{arith}

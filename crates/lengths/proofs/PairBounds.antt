@@ -5,7 +5,7 @@
 --     pair-most         a pair of n + 2 carets has a length of at most 4 · n + 2
 --     pair-narrow       no pair within the limits has one above 8 · limit − 2
 -- Assumes nothing.
-use mathlib.Core.Path.{_≡_, refl, ap, _∙_}
+use mathlib.Core.Path.{_≡_, refl, _∙_}
 use mathlib.Core.Bool.{false}
 use mathlib.Core.List.{List, [], _∷_, _++_}
 use Prim.Native.Nat.{ℕ, zero, suc, _+_, _*_, _≤_}
@@ -23,8 +23,8 @@ use Rattle.lengths.specs.Classes.{
   rightClasses,
   classes,
 }
-use Rattle.lengths.specs.Kinds.{inside, nextInside, someInside, kindOf, laterKinds, kindsOf}
-use Rattle.lengths.specs.Weights.{weight, weights, pairLength}
+use Rattle.lengths.specs.Kinds.{inside, someInside, kindOf, laterKinds, kindsOf}
+use Rattle.lengths.specs.Weights.{weights, pairLength}
 use Rattle.lengths.specs.inside.Steps.{EndsOutside}
 use Rattle.lengths.proofs.Weights.{weight-most, interior-none, weight-interior}
 use Rattle.lengths.proofs.ShapeClasses.{classes-length}
@@ -40,16 +40,18 @@ right-ends : (c : Class) → inside c ≡ false → (t : Tree) → EndsOutside (
 right-ends c h leaf = h
 right-ends c h (caret l r) = append-ends (c ∷ insideClasses l) onRight (rightClasses r) (right-ends onRight refl r)
 
--- The last caret of a tree is reached from the root by right edges only: it is the root or on the right side.
+-- The last caret of a tree is reached from the root by right edges only: it is the root, which 01 counts on the left
+-- side, or on the right side. (000 says that every tree has an R0; one whose last caret is the root has none.)
 pub last-not-inside : (t : Tree) → EndsOutside (classes t)
 last-not-inside leaf = tt
 last-not-inside (caret l r) = append-ends (leftClasses l) onLeft (rightClasses r) (right-ends onLeft refl r)
 
--- The sum of the weights of carets behind caret 0, by their classes.
+-- "The sum over k of the weight of caret k of T− with caret k of T+", for carets behind caret 0, by their classes.
 abbrev pub weightsOf : (cs ds : List Class) → ℕ
 weightsOf cs ds = weights (laterKinds cs) (laterKinds ds)
 
--- As many carets of both trees, the last ones not interior.
+-- As many carets of both trees, the last ones not interior: Fordham's table has 4 at most, and 2 where neither is
+-- interior.
 pub later-most : (c d : Class) (cs ds : List Class) → length cs ≡ length ds → EndsOutside (c ∷ cs)
     → EndsOutside (d ∷ ds) → weightsOf (c ∷ cs) (d ∷ ds) ≤ 4 * length cs + 2
 later-most c d [] [] e h k =
@@ -63,7 +65,7 @@ later-most c d (c′ ∷ cs) (d′ ∷ ds) e h k =
       later-most c′ d′ cs ds (omega arith) h k,
     )
 
--- A pair of at least two carets.
+-- A pair of at least two carets. "L0 meets only L0 and weighs 0", so that n + 1 carets are left, the last among them.
 pub pair-most : (n : ℕ) (t s : Tree) → carets t ≡ suc (suc n) → carets s ≡ suc (suc n) → pairLength t s ≤ 4 * n + 2
 pair-most n t s ht hs =
     go (classes t) (classes s) (classes-length t ∙ ht) (classes-length s ∙ hs) (last-not-inside t) (last-not-inside s)
@@ -76,7 +78,7 @@ pair-most n t s ht hs =
     go (_ ∷ []) ds hc hd ec ed = absurd (omega arith)
     go [] ds hc hd ec ed = absurd (omega arith)
 
--- A pair of at most one caret: caret 0 weighs nothing.
+-- A pair of at most one caret, which is L0.
 pub pair-few : (t s : Tree) → carets t ≤ 1 → pairLength t s ≡ 0
 pair-few t s h = go (classes t) (classes s) (omega (arith, classes-length t))
   where

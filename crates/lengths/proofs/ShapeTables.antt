@@ -1,6 +1,7 @@
 -- The shape of a tree at the front of a buffer: its leaves, and the table of the classes of its carets.
 --     shape-readable   the reader may begin             table-classes   the table holds the classes of the shape
---     shapes-classed   the classes of a pair were written  shapes-sum    the sum over two tables is that over two shapes
+--     shapes-classed   the classes of a pair were written
+--     shapes-sum       the sum over two tables is that over two shapes
 -- Assumes nothing.
 use mathlib.Core.Path.{_≡_, refl, sym, ap, ap₂, subst, _∙_}
 use mathlib.Core.List.{List, [], _∷_, _++_}

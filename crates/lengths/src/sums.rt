@@ -12,8 +12,8 @@ use crate::table::kind;
 use crate::table::weight;
 
 // The weights of the carets 1 to n − 1, by the classes of the carets of T− and of T+. Of both trees it is carried along
-// whether the next caret is interior, and whether some later one is. The last caret of neither is interior: it weighs at
-// most 2, every other at most 4, and 16 bits hold the sum.
+// whether the next caret is interior, and whether some later one is. The last caret of neither is interior, so that it
+// weighs at most 2; every other weighs at most 4, and 16 bits hold the sum.
 fn sum_weights(minus: &[u8], plus: &[u8], n: usize) -> usize
     requires { ⌜ PairClassed (now minus) (now plus) n ⌝ }
     ensures { λ r. ⌜ r ≡ weights (kindsOf (classesOf (take n (now (minus .entry)))))
