@@ -50,7 +50,7 @@ later-interiors (c ∷ cs) (d ∷ ds) =
       later-interiors cs ds,
     )
 
--- No caret of the right side is interior, and the root is not; so each that is is counted by one exponent.
+-- The root and the carets of the right side are not interior, and every other caret is counted by one exponent.
 right-interiors : (t : Tree) → rightCarets t + interiors (rightClasses t) ≤ carets t
 right-interiors leaf = omega arith
 right-interiors (caret l r) =
