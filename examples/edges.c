@@ -12,6 +12,7 @@ static uint8_t word[THOMPSON_LIMIT + 1], record[THOMPSON_RECORD(THOMPSON_LIMIT)]
 static uint16_t b_table[THOMPSON_TABLE(THOMPSON_LIMIT)], a_table[THOMPSON_TABLE(THOMPSON_LIMIT)];
 static uint16_t b_table2[1], a_table2[1];
 static uint8_t t_minus[THOMPSON_SHAPE(THOMPSON_CARETS)], t_plus[THOMPSON_SHAPE(THOMPSON_CARETS)];
+static uint8_t filed[THOMPSON_REGISTER_MOST + 1];
 static int wrong;
 
 static void row(const char *what, thompson_answer answer, uint64_t refusal, uint64_t value) {
@@ -44,6 +45,14 @@ static void null_pointers(void) {
         1);
     row("two words, nothing for the second",
         thompson_same_element(0, 0, b_table, 1, a_table, 1, record, 6, 0, 0, 0, 0, 0, 0, 0, 0), 256 + 6, 0);
+}
+
+/* A filing, as the others and with `present`. */
+static void filing_row(const char *what, thompson_filing answer, uint64_t refusal, uint64_t value, uint64_t present) {
+    int right = answer.refusal == refusal && answer.value == value && answer.present == present && answer.word == 0;
+    printf("  %-44s %" PRIu64 " %" PRIu64 " %" PRIu64 " %s\n", what, answer.refusal, answer.value, answer.present,
+           right ? "right" : "WRONG");
+    if (!right) wrong = 1;
 }
 
 /* A word of n letters, with tables and a buffer that are so many elements short. */
@@ -133,9 +142,50 @@ static void text_sizes(void) {
     row("the text buffer one byte short", text_back(all, n - 1), 7, 0);
 }
 
+/* A fresh register of n bytes. */
+static void put_fresh(size_t n) {
+    memset(filed, 0, n);
+    filed[0] = 0x10;
+    filed[2] = 4;
+}
+
+/* The word of n letters at the front of `word`, filed under a holder into a register of so many bytes. */
+static thompson_filing file(size_t n, uint16_t holder, size_t bytes) {
+    return thompson_enter_word(word, n, b_table, THOMPSON_TABLE(n), a_table, THOMPSON_TABLE(n), record,
+                               THOMPSON_RECORD(n), holder, filed, bytes);
+}
+
+/* The sizes of the header, for registers. */
+static void register_sizes(void) {
+    const size_t entry = THOMPSON_ENTRY(10), one = THOMPSON_REGISTER_FIRST + entry;
+    printf("registers: refusal, value, and for a filing whether the element was present\n");
+    memset(word, 'a', sizeof word);
+    row("register check, no register", thompson_check_register(0, 0), 12, 0);
+    row("live entries, no register", thompson_live_entries(0, 0, 0), 12, 0);
+    filing_row("a filing, nothing lent", thompson_enter_word(0, 0, 0, 0, 0, 0, 0, 0, 0, 0, 0), 6, 0, 0);
+    filing_row("a filing, no register", file(1, 0, 0), 12, 0, 0);
+    put_fresh(one);
+    row("a fresh register", thompson_check_register(filed, THOMPSON_REGISTER_FIRST), 0, 0);
+    filing_row("no room for the entry of one power", file(1, 9, one - 1), 14, 0, 0);
+    filing_row("room for it and no more", file(1, 9, one), 0, 1, 0);
+    filing_row("the same again", file(1, 8, one), 0, 1, 1);
+    row("live entries of its holder", thompson_live_entries(filed, one, 9), 0, 1);
+    row("live entries of the other", thompson_live_entries(filed, one, 8), 0, 0);
+    put_fresh(THOMPSON_REGISTER_MOST + 1);
+    filing_row("THOMPSON_REGISTER_MOST bytes", file(1, 65535, THOMPSON_REGISTER_MOST), 0, 1, 0);
+    filing_row("one byte more", file(1, 65535, THOMPSON_REGISTER_MOST + 1), 12, 0, 0);
+    row("register check of as many", thompson_check_register(filed, THOMPSON_REGISTER_MOST + 1), 12, 0);
+    for (size_t n = 2; n <= 4; n++) file(n, 65535, THOMPSON_REGISTER_MOST);
+    row("four entries of a holder", thompson_live_entries(filed, THOMPSON_REGISTER_MOST, 65535), 0, 4);
+    filing_row("a fifth", file(5, 65535, THOMPSON_REGISTER_MOST), 13, 0, 0);
+    filing_row("the fifth under another holder", file(5, 0, THOMPSON_REGISTER_MOST), 0, 5, 0);
+    filing_row("a filing of THOMPSON_LIMIT letters", file(THOMPSON_LIMIT, 1, THOMPSON_REGISTER_MOST), 0, 6, 0);
+}
+
 int main(void) {
     null_pointers();
     sizes();
     text_sizes();
+    register_sizes();
     return wrong;
 }

@@ -1,5 +1,6 @@
 /* A program in C over libthompson.a: for each word on the command line its record, its tree pair and its length, a word
-   that the record spells, and its text in subscript notation.
+   that the record spells, its text in subscript notation, and its entry in a register of the words before it, each word
+   with a holder of its own.
        words abA ba */
 #include "thompson.h"
 
@@ -10,6 +11,9 @@
 static uint16_t b_table[THOMPSON_TABLE(THOMPSON_LIMIT)], a_table[THOMPSON_TABLE(THOMPSON_LIMIT)];
 static uint8_t record[THOMPSON_RECORD(THOMPSON_LIMIT)], letters[THOMPSON_LIMIT], text[THOMPSON_TEXT(THOMPSON_LIMIT)];
 static uint8_t t_minus[THOMPSON_SHAPE(THOMPSON_CARETS)], t_plus[THOMPSON_SHAPE(THOMPSON_CARETS)];
+
+/* A fresh register: the first field, and a byte 00 behind it. */
+static uint8_t filed[THOMPSON_REGISTER_MOST] = {0x10, 0, 4};
 
 /* Whether the call was accepted; else its refusal is printed. */
 static int accepted(const char *what, thompson_answer answer) {
@@ -30,7 +34,7 @@ static void print_shape(const char *what, const uint8_t *shape, size_t carets) {
     printf("\n");
 }
 
-static void print_word(const char *word) {
+static void print_word(const char *word, uint16_t holder) {
     printf("word %s\n", word);
     thompson_answer written =
         thompson_word_to_record((const uint8_t *)word, strlen(word), b_table, sizeof b_table / sizeof *b_table, a_table,
@@ -50,9 +54,14 @@ static void print_word(const char *word) {
     if (accepted("spelling", spelled)) printf("  spelled %.*s\n", (int)spelled.value, (const char *)letters);
     thompson_answer noted = thompson_record_to_text(record, written.value, text, sizeof text);
     if (accepted("text", noted)) printf("  text %.*s\n", (int)noted.value, (const char *)text);
+    thompson_filing filing =
+        thompson_enter_word((const uint8_t *)word, strlen(word), b_table, sizeof b_table / sizeof *b_table, a_table,
+                            sizeof a_table / sizeof *a_table, record, sizeof record, holder, filed, sizeof filed);
+    if (accepted("entry", (thompson_answer){filing.refusal, filing.value}))
+        printf("  entry %" PRIu64 " %s\n", filing.value, filing.present ? "present" : "new");
 }
 
 int main(int argc, char **argv) {
-    for (int i = 1; i < argc; i++) print_word(argv[i]);
+    for (int i = 1; i < argc; i++) print_word(argv[i], (uint16_t)i);
     return 0;
 }

@@ -1,7 +1,7 @@
 // A program in Rust over libthompson.a: for each word on the command line its record, its tree pair and its length, a
-// word that the record spells, and its text in subscript notation. The module `thompson` is a safe face of the calls: a
-// Rust slice is a valid pointer with its length, and a `&mut` slice overlaps nothing else, which is all that the calls
-// ask.
+// word that the record spells, its text in subscript notation, and its entry in a register of the words before it, each
+// word with a holder of its own. The module `thompson` is a safe face of the calls: a Rust slice is a valid pointer
+// with its length, and a `&mut` slice overlaps nothing else, which is all that the calls ask.
 //     words abA ba
 
 mod thompson {
@@ -10,6 +10,15 @@ mod thompson {
     struct Answer {
         refusal: u64,
         value: u64,
+    }
+
+    // A filing: a refusal's number and place, or 0 and the entry's number; 1 where that entry was present; the word.
+    #[repr(C)]
+    struct Filing {
+        refusal: u64,
+        value: u64,
+        present: u64,
+        word: u64,
     }
 
     // The most letters of a word, the most carets of a tree, and bytes that are enough for the text of any record.
@@ -52,6 +61,19 @@ mod thompson {
             t_plus_size: usize,
         ) -> Answer;
         fn thompson_record_to_length(record: *const u8, record_size: usize) -> Answer;
+        fn thompson_enter_word(
+            word: *const u8,
+            letters: usize,
+            b_table: *mut u16,
+            b_entries: usize,
+            a_table: *mut u16,
+            a_entries: usize,
+            record: *mut u8,
+            record_size: usize,
+            holder: u16,
+            register: *mut u8,
+            register_size: usize,
+        ) -> Filing;
     }
 
     fn value(answer: Answer) -> Result<usize, Refused> {
@@ -119,6 +141,40 @@ mod thompson {
         Ok(TreePair { carets, minus, plus })
     }
 
+    // A fresh register of n bytes, at least 7.
+    pub fn fresh_register(n: usize) -> Vec<u8> {
+        let mut register = vec![0u8; n];
+        register[..3].copy_from_slice(&[0x10, 0, 4]);
+        register
+    }
+
+    // The entry of a word in a register, and whether it was present.
+    pub fn enter(word: &[u8], holder: u16, register: &mut [u8]) -> Result<(u64, bool), Refused> {
+        let mut b = vec![0u16; word.len() + 1];
+        let mut a = vec![0u16; word.len() + 1];
+        let mut record = vec![0u8; 6 + 4 * word.len()];
+        let filing = unsafe {
+            thompson_enter_word(
+                word.as_ptr(),
+                word.len(),
+                b.as_mut_ptr(),
+                b.len(),
+                a.as_mut_ptr(),
+                a.len(),
+                record.as_mut_ptr(),
+                record.len(),
+                holder,
+                register.as_mut_ptr(),
+                register.len(),
+            )
+        };
+        assert_eq!(filing.word, 0, "one word is filed");
+        match filing.refusal {
+            0 => Ok((filing.value, filing.present == 1)),
+            number => Err(Refused { number, place: filing.value }),
+        }
+    }
+
     // The length of a record.
     pub fn length(record: &[u8]) -> Result<usize, Refused> {
         value(unsafe { thompson_record_to_length(record.as_ptr(), record.len()) })
@@ -143,7 +199,7 @@ fn print_refused(what: &str, refused: Refused) {
     println!("  {what}: refused {}, place {}", refused.number, refused.place);
 }
 
-fn print_word(word: &[u8]) {
+fn print_word(word: &[u8], holder: u16, register: &mut [u8]) {
     print_bytes("word", word);
     let record = match thompson::record(word) {
         Ok(record) => record,
@@ -167,8 +223,15 @@ fn print_word(word: &[u8]) {
         Ok(text) => print_bytes("  text", &text),
         Err(refused) => print_refused("text", refused),
     }
+    match thompson::enter(word, holder, register) {
+        Ok((number, present)) => println!("  entry {number} {}", if present { "present" } else { "new" }),
+        Err(refused) => print_refused("entry", refused),
+    }
 }
 
 fn main() {
-    std::env::args_os().skip(1).for_each(|word| print_word(&word.into_vec()));
+    let mut register = thompson::fresh_register(65536);
+    for (word, holder) in std::env::args_os().skip(1).zip(1..) {
+        print_word(&word.into_vec(), holder, &mut register);
+    }
 }

@@ -1,10 +1,10 @@
 /* Thompson's group F: each element listed once. The calls of libthompson.a, which `rt staticlib thompson` proves and
    builds, for C and for anything that can call C on x86-64.
 
-   Every call answers two numbers by value. `refusal` is 0 where the call was accepted, and `value` is then what the
-   call answers; else `refusal` is the number of the refusal and `value` its place, and every byte that was lent is as
-   it was before the call. A call asks nothing of the bytes it is given, always returns, and keeps nothing: no memory
-   is allocated, no file is touched, nothing is remembered from one call to the next.
+   Every call answers two numbers by value, a filing four. `refusal` is 0 where the call was accepted, and `value` is
+   then what the call answers; else `refusal` is the number of the refusal and `value` its place, and every byte that
+   was lent is as it was before the call. A call asks nothing of the bytes it is given, always returns, and keeps
+   nothing: no memory is allocated, no file is touched, nothing is remembered from one call to the next.
 
    What is proved of each call is its contract (crates/thompson/src/lib.rt) on every input. What no contract can say,
    and the caller must see to, is this:
@@ -24,7 +24,12 @@
    has at most THOMPSON_LIMIT letters. A record is the bytes of a reduced form; each element has one. A text is in
    subscript notation, as in `x0^2 x1 x6 x3^-1 x0^-2`: tokens one space apart, each an `x`, an index and, unless the
    exponent is 1, a `^` and the exponent, which is not 0 and at most THOMPSON_LIMIT in size; decimals without leading
-   zeros. An empty token, as in front of a first space, is misspelled; the empty text has none and is the empty word. */
+   zeros. An empty token, as in front of a first space, is misspelled; the empty text has none and is the empty word.
+
+   A register is one buffer of at most THOMPSON_REGISTER_MOST bytes, in which each element has one entry, numbered in
+   the order of first filing. It begins with the last entry number given: a fresh one has the bytes 10 00 04 00 00 00 00
+   (hexadecimal), and then ends or has a byte 00. A holder, any 16-bit number, has at most four entries. Each call
+   checks all of the register that it is handed. */
 #ifndef THOMPSON_H
 #define THOMPSON_H
 
@@ -53,6 +58,14 @@ extern "C" {
 #define THOMPSON_CARETS (2 * THOMPSON_LIMIT + 1)
 #define THOMPSON_SHAPE(n) (2 * (size_t)(n) + 1)
 
+/* The most bytes of a register, the bytes of one without entries, and those of an entry with a record of r bytes. */
+#define THOMPSON_REGISTER_MOST 65536
+#define THOMPSON_REGISTER_FIRST 7
+#define THOMPSON_ENTRY(r) (9 + (size_t)(r))
+
+/* Bytes that are enough for a register of k entries, each the element of a word of at most n letters. */
+#define THOMPSON_REGISTER(k, n) (THOMPSON_REGISTER_FIRST + (size_t)(k)*THOMPSON_ENTRY(THOMPSON_RECORD(n)))
+
 /* The refusals. The order in which a call tests them stands with the call. */
 enum {
     THOMPSON_ACCEPTED = 0,
@@ -66,7 +79,10 @@ enum {
     THOMPSON_LONG_SPELLING = 8,    /* the spelling has more letters than the limit; place 0 */
     THOMPSON_MISSPELLED = 9,       /* a misspelled token, or an index above the limit; place: the offset of the first */
     THOMPSON_LARGE_EXPONENTS = 10, /* the sizes of the exponents sum above the limit; place 0 */
-    THOMPSON_HIGH_INDEX = 11       /* the reduced form has an index above the limit; place 0 */
+    THOMPSON_HIGH_INDEX = 11,      /* the reduced form has an index above the limit; place 0 */
+    THOMPSON_BAD_REGISTER = 12,    /* no well-formed register, or too long a one; place 0 */
+    THOMPSON_HOLDER_FULL = 13,     /* the holder has four entries; place 0 */
+    THOMPSON_REGISTER_FULL = 14    /* the entry does not fit, or its number would pass 4,294,967,295; place 0 */
 };
 
 /* A refusal's number and place, or 0 and the call's value. */
@@ -74,6 +90,15 @@ typedef struct {
     uint64_t refusal;
     uint64_t value;
 } thompson_answer;
+
+/* A filing: a refusal's number and place, or 0 and the entry's number; `present` is 1 where that entry held the element
+   before, else 0; `word` is the word that this is said of, 0 where one word is filed. */
+typedef struct {
+    uint64_t refusal;
+    uint64_t value;
+    uint64_t present;
+    uint64_t word;
+} thompson_filing;
 
 /* Word to record.
    Lent: the word, n letters; two tables of at least n + 1 entries each; a record buffer of at least 6 + 4 n bytes.
@@ -135,6 +160,28 @@ thompson_answer thompson_same_element(const uint8_t *word1, size_t letters1, uin
                                       uint16_t *a_table1, size_t a_entries1, uint8_t *record1, size_t record_size1,
                                       const uint8_t *word2, size_t letters2, uint16_t *b_table2, size_t b_entries2,
                                       uint16_t *a_table2, size_t a_entries2, uint8_t *record2, size_t record_size2);
+
+/* A word filed into a register under a holder: the entry that holds the word's element, whoever holds it, or a new one.
+   Lent: what thompson_word_to_record takes, which an answer leaves as that call does; the register.
+   Value: the entry's number. A new entry has one above the last number given; it stands behind the last entry, with a
+   byte 00 behind it if a byte is free, and the first field has its number. Every other byte of the register is as it
+   was; where the element has an entry already, every byte is.
+   Refusals, in this order: 1, 2, 6, 7, 12; then, where no entry holds the element, 13, 14. */
+thompson_filing thompson_enter_word(const uint8_t *word, size_t letters, uint16_t *b_table, size_t b_entries,
+                                    uint16_t *a_table, size_t a_entries, uint8_t *record, size_t record_size,
+                                    uint16_t holder, uint8_t *register_bytes, size_t register_size);
+
+/* Register check. Nothing is written.
+   Lent: the register, all of its buffer.
+   Value: 0.
+   Refusal: 12. */
+thompson_answer thompson_check_register(const uint8_t *register_bytes, size_t register_size);
+
+/* The live entries of a holder, at most four. Nothing is written.
+   Lent: the register.
+   Value: how many entries the holder has.
+   Refusal: 12. */
+thompson_answer thompson_live_entries(const uint8_t *register_bytes, size_t register_size, uint16_t holder);
 
 #ifdef __cplusplus
 }

@@ -1,6 +1,7 @@
 -- The theorem of all claims: the proofs, each under the name of its claim. Assumes nothing.
 use Rattle.calls.specs.Claims.{Claims}
 use Rattle.calls.proofs.Demanded as Demanded
+use Rattle.calls.proofs.DemandedOfRegisters as DemandedOfRegisters
 use Rattle.calls.proofs.Calls as Calls
 use Rattle.claims.proofs.Demands as Demands
 use Rattle.claims.proofs.Exports as Exports
@@ -11,6 +12,8 @@ use Rattle.claims.proofs.Trees as Trees
 use Rattle.claims.proofs.Lengths as Lengths
 use Rattle.claims.proofs.Spellings as Spellings
 use Rattle.claims.proofs.Texts as Texts
+use Rattle.claims.proofs.Registers as Registers
+use Rattle.claims.proofs.EnterCalls as EnterCalls
 use Rattle.claims.proofs.Receipts as Receipts
 use Rattle.claims.proofs.Worked as Worked
 
@@ -19,6 +22,7 @@ claims = record {
   demanded = Demanded.demanded;
   demanded-of-exports = Demanded.demanded-of-exports;
   one-record = Demanded.one-record;
+  demanded-of-registers = DemandedOfRegisters.demanded-of-registers;
   calls = Calls.calls;
   exports = Calls.exports;
   demand1 = Demands.demand1;
@@ -72,6 +76,12 @@ claims = record {
   decimals-are-numerals = Texts.decimals-are-numerals;
   texts-are-tokens = Texts.texts-are-tokens;
   texts-are-letters = Texts.texts-are-letters;
+  registers-are-read = Registers.registers-are-read;
+  enters-words = EnterCalls.enters-words;
+  only-new-bytes = EnterCalls.only-new-bytes;
+  history = Registers.history;
+  same-entry = Registers.same-entry;
+  charges = Registers.charges;
   lines-of-bytes = Receipts.lines-of-bytes;
   lines-in-parts = Receipts.lines-in-parts;
   serves-met-lines = Receipts.serves-met-lines;
@@ -79,4 +89,5 @@ claims = record {
   receipts-of-input = Receipts.receipts-of-input;
   worked = Worked.worked;
   worked-forms = Worked.worked-forms;
+  worked-registers = Worked.worked-registers;
 }

@@ -2,4 +2,5 @@
 pub mod Always
 pub mod Calls
 pub mod Demanded
+pub mod DemandedOfRegisters
 pub mod Claims

@@ -2,9 +2,10 @@
 -- with its relation. A field names the function's own code, `routine`, and the relation, so that with another contract,
 -- or with a demand on its caller, the function has no proof here. `now x` is what stands behind the reference x: of a
 -- slice its elements. proofs/Calls.antt has the proofs, which are the functions' theorems.
---     Calls     the calls of document 01, of 02, [1], and of the receipt program
+--     Calls     the calls of document 01, of 02, [1] and [3], and of the receipt program
 --     Exports   the calls for C and Rust
 -- Assumes nothing.
+use mathlib.Core.Path.{_≡_}
 use denote.Ref.{now}
 use Rattle.refusals.specs.Outcomes.{verdictOf, replyOf}
 use Rattle.records.specs.Checking.{Checked}
@@ -13,8 +14,12 @@ use Rattle.words.specs.Comparing.{Compared, decisionOf}
 use Rattle.pairs.specs.Contracts.{Paired, Measured}
 use Rattle.spelling.specs.Contracts.{Spelled}
 use Rattle.notation.specs.Contracts.{TextRecorded, TextWritten}
+use Rattle.registers.specs.Finding.{found}
+use Rattle.registers.specs.Answers.{RegisterChecked, Summarised, searchOf, headingAt}
+use Rattle.updates.specs.Accounts.{AccountRead}
+use Rattle.updates.specs.Entering.{enteredOf, EnteredWord}
 use Rattle.receipts.specs.Contracts.{Begun, ServedPart, Finished}
-use Rattle.thompson.specs.Codes.{codeOf, codeOfDecision, Passed}
+use Rattle.thompson.specs.Codes.{codeOf, codeOfDecision, codeOfEntered, liveOf, Passed}
 use Rattle.calls.specs.Always.{Always}
 use Rattle.words.proofs.word_to_record as word-to-record
 use Rattle.words.proofs.same_element as same-element
@@ -24,6 +29,12 @@ use Rattle.pairs.proofs.record_to_length as record-to-length
 use Rattle.spelling.proofs.record_to_word as record-to-word
 use Rattle.notation.proofs.text_to_record as text-to-record
 use Rattle.notation.proofs.record_to_text as record-to-text
+use Rattle.registers.proofs.check_register as check-register
+use Rattle.registers.proofs.summary as summary
+use Rattle.registers.proofs.find as find
+use Rattle.registers.proofs.entry_at as entry-at
+use Rattle.updates.proofs.enter_word as enter-word
+use Rattle.updates.proofs.account_of as account-of
 use Rattle.receipts.proofs.begin as begin
 use Rattle.receipts.proofs.serve as serve
 use Rattle.receipts.proofs.finish as finish
@@ -35,6 +46,9 @@ use Rattle.thompson.proofs.thompson_record_to_length as thompson-record-to-leng
 use Rattle.thompson.proofs.thompson_record_to_word as thompson-record-to-word
 use Rattle.thompson.proofs.thompson_text_to_record as thompson-text-to-record
 use Rattle.thompson.proofs.thompson_record_to_text as thompson-record-to-text
+use Rattle.thompson.proofs.thompson_enter_word as thompson-enter-word
+use Rattle.thompson.proofs.thompson_check_register as thompson-check-register
+use Rattle.thompson.proofs.thompson_live_entries as thompson-live-entries
 
 -- The calls of the papers and of the receipt program.
 pub record Calls : Type 2 where
@@ -57,6 +71,16 @@ pub record Calls : Type 2 where
       (memory (now b′) (now a′) (now e′)) r)
   pub record-to-text : Always record-to-text.ended record-to-text.Symbol.routine
       (λ κs s s′ t t′ r. TextWritten (now s) (now t) (now t′) r)
+  pub check-register : Always check-register.ended check-register.Symbol.routine
+      (λ κs s s′ r. RegisterChecked (now s) r)
+  pub summary : Always summary.ended summary.Symbol.routine (λ κs s s′ h h′ r. Summarised (now s) h r)
+  pub find : Always find.ended find.Symbol.routine (λ κs s s′ b b′ r. r ≡ searchOf (found (now s) (now b)))
+  pub entry-at : Always entry-at.ended entry-at.Symbol.routine (λ κs s s′ i i′ r. r ≡ headingAt (now s) i)
+  pub enter-word : Always enter-word.ended enter-word.Symbol.routine
+      (λ κs u u′ b b′ a a′ e e′ h h′ s s′ r. EnteredWord (now u) (memory (now b) (now a) (now e))
+      (memory (now b′) (now a′) (now e′)) h (now s) (now s′) r)
+  pub account-of : Always account-of.ended account-of.Symbol.routine
+      (λ κs s s′ h h′ r. AccountRead (now s) h r)
   pub begin : Always begin.ended begin.Symbol.routine (λ κs out out′ r. Begun (now out) (now out′) r)
   pub serve : Always serve.ended serve.Symbol.routine
       (λ κs part part′ k k′ held held′ line line′ out out′ r. ServedPart (now part) k held (now line) (now out)
@@ -86,3 +110,10 @@ pub record Exports : Type 2 where
       (TextRecorded (now t) (memory (now b) (now a) (now e)) (memory (now b′) (now a′) (now e′))) r)
   pub record-to-text : Always thompson-record-to-text.ended thompson-record-to-text.Symbol.routine
       (λ κs s s′ t t′ r. Passed (λ x. codeOf (replyOf x)) (TextWritten (now s) (now t) (now t′)) r)
+  pub enter-word : Always thompson-enter-word.ended thompson-enter-word.Symbol.routine
+      (λ κs u u′ b b′ a a′ e e′ h h′ s s′ r. Passed (λ x. codeOfEntered (enteredOf x)) (EnteredWord (now u)
+      (memory (now b) (now a) (now e)) (memory (now b′) (now a′) (now e′)) h (now s) (now s′)) r)
+  pub check-register : Always thompson-check-register.ended thompson-check-register.Symbol.routine
+      (λ κs s s′ r. Passed (λ x. codeOf (verdictOf x)) (RegisterChecked (now s)) r)
+  pub live-entries : Always thompson-live-entries.ended thompson-live-entries.Symbol.routine
+      (λ κs s s′ h h′ r. Passed (λ x. codeOf (liveOf x)) (AccountRead (now s) h) r)

@@ -2,6 +2,7 @@
 -- is listed here without its proof. A group gives the file of specs/ that says what its claims are; those of `calls`
 -- stand in this crate. A claim that is added anywhere gets its field here. Assumes nothing.
 use Rattle.calls.specs.Demanded.{Demanded, DemandedOfExports, OneRecord}
+use Rattle.calls.specs.DemandedOfRegisters.{DemandedOfRegisters}
 use Rattle.calls.specs.Calls.{Calls, Exports}
 use Rattle.claims.specs.Demands.{Demand1, Demand2, Demand3}
 use Rattle.claims.specs.Exports.{ExportsAnswerAsCalls}
@@ -17,14 +18,17 @@ use Rattle.claims.specs.Lengths.{LengthIsLeast, LetterChangesByOne, SomeLetterL
 use Rattle.claims.specs.Lengths.{NoShorterWord, FewCarets, LabelsGiveLength, NarrowSum}
 use Rattle.claims.specs.Spellings.{DeletingEnds, FormsAreSpelled, SpellingHasLength}
 use Rattle.claims.specs.Texts.{DecimalsAreNumerals, TextsAreTokens, TextsAreLetters}
+use Rattle.claims.specs.Registers.{RegistersAreRead, EntersWords, OnlyNewBytes, History, SameEntry, Charges}
 use Rattle.claims.specs.Receipts.{LinesOfBytes, LinesInParts, ServesMetLines, CutKeepsReceipt, ReceiptsOfInput}
-use Rattle.claims.specs.Worked.{Worked, WorkedForms}
+use Rattle.claims.specs.Worked.{Worked, WorkedForms, WorkedRegisters}
 
 pub record Claims : Type 2 where
   -- The demands, said of the functions and of the exports: calls, Demanded.
   pub demanded : Demanded
   pub demanded-of-exports : DemandedOfExports
   pub one-record : OneRecord
+  -- The same of the register's calls: calls, DemandedOfRegisters.
+  pub demanded-of-registers : DemandedOfRegisters
   -- That the contracts of the claims are those of the functions: calls, Calls.
   pub calls : Calls
   pub exports : Exports
@@ -88,6 +92,13 @@ pub record Claims : Type 2 where
   pub decimals-are-numerals : DecimalsAreNumerals
   pub texts-are-tokens : TextsAreTokens
   pub texts-are-letters : TextsAreLetters
+  -- The register of first filings: claims, Registers.
+  pub registers-are-read : RegistersAreRead
+  pub enters-words : EntersWords
+  pub only-new-bytes : OnlyNewBytes
+  pub history : History
+  pub same-entry : SameEntry
+  pub charges : Charges
   -- Receipts: claims, Receipts.
   pub lines-of-bytes : LinesOfBytes
   pub lines-in-parts : LinesInParts
@@ -97,3 +108,4 @@ pub record Claims : Type 2 where
   -- Worked examples: claims, Worked.
   pub worked : Worked
   pub worked-forms : WorkedForms
+  pub worked-registers : WorkedRegisters

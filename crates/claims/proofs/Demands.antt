@@ -17,11 +17,13 @@ use Rattle.records.specs.Checking.{Checked}
 use Rattle.lengths.specs.Weights.{formLength}
 use Rattle.words.specs.Recording.{Memory, encodeWord, judgedWith, Recorded}
 use Rattle.words.specs.Comparing.{decisionOf, same, different}
+use Rattle.registers.specs.Reading.{readRegister}
 use Rattle.tokens.proofs.Texts.{text-injective}
 use Rattle.thompson.specs.Codes.{readOutcome, outcomeOf}
 use Rattle.thompson.proofs.Codes.{reply-read}
 use Rattle.claims.specs.Refusals.{WordRefusal, RecordRefusal}
 use Rattle.claims.specs.Answers.{IsRefused, IsAccepted, Refuses}
+use Rattle.claims.specs.Registers.{RegisterRefusal}
 use Rattle.claims.specs.Calls.{CallOn, byWord, byText, recordBy, MemoryCall, SpellingCall, spelledBy, TwoWordCall}
 use Rattle.claims.specs.Calls.{ExportedMemoryCall, ExportedCall, exportedWord, exportedText, exportedRecord}
 use Rattle.claims.specs.Demands.{Demand1, Demand2, Demand3}
@@ -37,6 +39,8 @@ use Rattle.claims.proofs.SpellingCalls.{joined-spelling, spelling-sent,
 use Rattle.claims.proofs.TextRefusals.{no-text-refusal↔none}
 use Rattle.claims.proofs.TextCalls.{text-refused, text-call, text-keeps-map, call-listed}
 use Rattle.claims.proofs.PhraseCalls.{phrase-refused, phrased-as, phrase-gives, phrase-sent, phrase-again}
+use Rattle.claims.proofs.RegisterRefusals.{read↔refusal}
+use Rattle.claims.proofs.EnterCalls.{enter-refused}
 
 -- Word to record refuses as the word is judged, and then leaves everything.
 word-refused : {u : List ℕ} {m m′ : Memory} {r : Reply} → Recorded u m m′ r
@@ -119,6 +123,9 @@ demand1 = record {
   text-to-record = λ t m m′ r. text-refused;
   record-to-text = λ s t t′ r. phrase-refused;
   accepted-text = no-text-refusal↔none;
+  check-register = λ s r h.
+      refuses-when (λ q. 0) (readRegister s) (h .result) (RegisterRefusal s) (read↔refusal s (h .are-bytes));
+  enter-word = enter-refused;
 }
 
 pub demand2 : Demand2

@@ -10,6 +10,11 @@ pub mod SpellingCalls
 pub mod TextRefusals
 pub mod TextCalls
 pub mod PhraseCalls
+pub mod Filed
+pub mod NewEntries
+pub mod RegisterRefusals
+pub mod Filings
+pub mod EnterCalls
 pub mod Demands
 pub mod Exports
 pub mod Forms
@@ -18,5 +23,6 @@ pub mod Lengths
 pub mod Spellings
 pub mod Texts
 pub mod Receipts
+pub mod Registers
 pub mod Sentences
 pub mod Worked

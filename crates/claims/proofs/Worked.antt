@@ -4,7 +4,8 @@ use mathlib.Core.Path.{_≡_, refl, sym, ap, _∙_, subst}
 use mathlib.Core.List.{List, [], _∷_, _++_}
 use Prim.Native.Nat.{ℕ, zero, suc, _<_, _≤_}
 use native.Mathlib.Omega.{arith}
-use lib.ListN.{length}
+use lib.ListN.{length, replicate}
+use Rattle.lists.specs.SameBytes.{sameBytes}
 use Rattle.lines.specs.Lines.{linesFrom}
 use Rattle.group.specs.Letters.{'b, Word}
 use Rattle.group.specs.Bytes.{readWord}
@@ -38,8 +39,14 @@ use Rattle.tokens.specs.Texts.{textOf}
 use Rattle.notation.specs.Contracts.{formText}
 use Rattle.numerals.specs.Decimals.{ascii, decimalWithin}
 use Rattle.rows.specs.Receipts.{outputOf}
+use Rattle.registers.specs.Format.{Register}
+use Rattle.registers.specs.Reading.{readEntries, readRegister, numberFor}
+use Rattle.registers.proofs.ReadBack.{register-front}
+use Rattle.updates.specs.Entering.{newEntry, present, storedForm, Found, answered, registerAfter}
+use Rattle.updates.proofs.StoredForms.{stored-read}
 use Rattle.claims.specs.Worked.{unreduced, unreducedRecord, deadEnd, deadEndRecord, Measures, IsSpelled}
-use Rattle.claims.specs.Worked.{IsPhrased, Worked, WorkedForms}
+use Rattle.claims.specs.Worked.{IsPhrased, IsEntered, fresh26, fresh33, filedA, filedBAbab}
+use Rattle.claims.specs.Worked.{Worked, WorkedForms, WorkedRegisters}
 use Rattle.claims.proofs.WordCalls.{read-record}
 
 -- The clause is broken at index 0.
@@ -177,4 +184,45 @@ worked-forms = record {
   dead-end-spelling = refl;
   dead-end-minus = refl;
   dead-end-plus = refl;
+}
+
+-- Filings: the first two by computation.
+entered-a : IsEntered "a" 0 fresh26 (newEntry 1) filedA
+unfolding readEntries
+entered-a = record { word = word "a"; text = refl; answer = refl; left = refl }
+
+entered-BAbab : IsEntered "BAbab" 0 fresh33 (newEntry 1) filedBAbab
+unfolding readEntries
+entered-BAbab = record { word = word "BAbab"; text = refl; answer = refl; left = refl }
+
+-- What the second left is read as one entry.
+abbrev oneEntry : Register
+oneEntry = record {
+  last = 1;
+  entries = record { number = 1; holder = 0; form = storedForm (word "BAbab") } ∷ [];
+}
+
+read-BAbab : readRegister filedBAbab ≡ accepted oneEntry
+read-BAbab =
+    register-front oneEntry (0 ∷ replicate 6 255) (stored-read (word "BAbab") (omega arith), tt) refl refl
+    (omega arith)
+
+entered-AAbaa : IsEntered "AAbaa" 7 filedBAbab (present 1) filedBAbab
+unfolding sameBytes
+entered-AAbaa =
+    let f : Form = storedForm (word "AAbaa") in
+    let then-filed : Outcome Register → Outcome Found =
+    λ o. then o (λ r. answered (numberFor f (r .entries)) r 33 7 f) in
+    record {
+      word = word "AAbaa";
+      text = refl;
+      answer = ap (λ (o : Outcome Register). then (then-filed o) (λ x. accepted (x .answer))) read-BAbab;
+      left = ap (λ (o : Outcome Register). registerAfter (then-filed o) filedBAbab) read-BAbab;
+    }
+
+pub worked-registers : WorkedRegisters
+worked-registers = record {
+  entered-a = entered-a;
+  entered-BAbab = entered-BAbab;
+  entered-AAbaa = entered-AAbaa;
 }

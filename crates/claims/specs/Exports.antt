@@ -3,6 +3,7 @@
 -- the proof. What the claim speaks of, and where it is defined:
 --     Passed code contract r   the contract of each export                                            thompson, Codes
 --     outcomeOf, decisionIn    what a caller reads in the numbers: 0 and a value, or number and place thompson, Codes
+--     replyIn, liveOf          the same in the four numbers of a filing; the live count of an account thompson, Codes
 --     the contracts, and replyOf, verdictOf, decisionOf                       the glossary of Demands.antt
 -- Assumes nothing.
 use mathlib.Core.Path.{_≡_}
@@ -18,8 +19,15 @@ use Rattle.notation.specs.Contracts.{TextRecorded, TextWritten}
 use Rattle.words.specs.Recording.{Memory, Recorded}
 use Rattle.words.specs.Comparing.{Compared, decisionOf}
 use Rattle.words.specs.declared.Comparison.{Comparison}
+use Rattle.registers.specs.Answers.{RegisterChecked}
+use Rattle.updates.specs.Accounts.{AccountRead}
+use Rattle.updates.specs.Entering.{enteredOf, repliedOf, EnteredWord}
+use Rattle.updates.specs.declared.AccountOf.{AccountOf}
+use Rattle.updates.specs.declared.Entered.{Entered}
 use Rattle.thompson.specs.Codes.{codeOf, codeOfDecision, outcomeOf, decisionIn, Passed}
+use Rattle.thompson.specs.Codes.{codeOfEntered, liveOf, replyIn}
 use Rattle.thompson.specs.declared.Answer.{Answer}
+use Rattle.thompson.specs.declared.Filing.{Filing}
 
 -- Each exported call answers as its call does.
 pub record ExportsAnswerAsCalls : Type 0 where
@@ -43,3 +51,10 @@ pub record ExportsAnswerAsCalls : Type 0 where
       → (r : Reply) × TextRecorded t m m′ r × (outcomeOf a ≡ replyOf r)
   pub record-to-text : (s t t′ : List ℕ) (a : Answer) → Passed (λ r. codeOf (replyOf r)) (TextWritten s t t′) a
       → (r : Reply) × TextWritten s t t′ r × (outcomeOf a ≡ replyOf r)
+  pub enter-word : (u : List ℕ) (m m′ : Memory) (h : ℕ) (s s′ : List ℕ) (a : Filing)
+      → Passed (λ r. codeOfEntered (enteredOf r)) (EnteredWord u m m′ h s s′) a
+      → (r : Entered) × EnteredWord u m m′ h s s′ r × (replyIn a ≡ repliedOf r)
+  pub check-register : (s : List ℕ) (a : Answer) → Passed (λ r. codeOf (verdictOf r)) (RegisterChecked s) a
+      → (r : Verdict) × RegisterChecked s r × (outcomeOf a ≡ verdictOf r)
+  pub live-entries : (s : List ℕ) (h : ℕ) (a : Answer) → Passed (λ r. codeOf (liveOf r)) (AccountRead s h) a
+      → (r : AccountOf) × AccountRead s h r × (outcomeOf a ≡ liveOf r)

@@ -12,5 +12,6 @@ pub mod Lengths
 pub mod Spellings
 pub mod Texts
 pub mod Receipts
+pub mod Registers
 pub mod Sentences
 pub mod Worked

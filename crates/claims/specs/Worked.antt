@@ -4,17 +4,19 @@
 -- by its levels, `level b_0 a_0 (level b_1 a_1 …)`. N and the length of a word are those of its record.
 --     Worked        01's lines marked P, the limit, the printed table of weights, the relators, and a whole receipt
 --     WorkedForms   the same lines of forms, and 000's Table 4
+--     WorkedRegisters   filings of 02, [3], with every byte of the register
 --     HasForm t f, HasRecord t s   the text t is a word, with the form f, with the record s
 --     Measures s n l               the record s is read, N is n and the length is l
 --     IsSpelled s t                the record s is read, and spelled as the text t
 --     IsPhrased s t                the record s is that of the text t in subscript notation, and is written as t
+--     IsEntered t h s y s′         the text t, filed under holder h into the register s, is answered y and leaves s′
 -- Assumes nothing.
 use mathlib.Core.Path.{_≡_}
 use mathlib.Core.List.{List, [], _∷_, _++_}
 use mathlib.Core.Option.{some, Option·map}
 use Prim.Native.Nat.{ℕ}
 use Prim.Native.String.{String}
-use lib.ListN.{length}
+use lib.ListN.{length, replicate}
 use Rattle.group.specs.Letters.{'b, Word}
 use Rattle.group.specs.Chains.{relator1, relator2}
 use Rattle.group.specs.Maps.{SameMap}
@@ -24,7 +26,7 @@ use Rattle.group.specs.Products.{formOf}
 use Rattle.group.specs.Texts.{wordOf}
 use Rattle.group.specs.Limits.{limit}
 use Rattle.group.specs.Powers.{SignedPower}
-use Rattle.refusals.specs.Outcomes.{accepted, refused, valued}
+use Rattle.refusals.specs.Outcomes.{accepted, refused, valued, then}
 use Rattle.records.specs.Format.{Power, power, entries, bTag, aTag, encode}
 use Rattle.fields.specs.Fields.{field}
 use Rattle.records.specs.Reading.{decode}
@@ -40,6 +42,7 @@ use Rattle.notation.specs.Contracts.{textIn}
 use Rattle.words.specs.Recording.{encodeWord}
 use Rattle.numerals.specs.Decimals.{ascii}
 use Rattle.rows.specs.Receipts.{outputOf}
+use Rattle.updates.specs.Entering.{Reply, newEntry, present, enteredWord, registerAfter}
 
 -- The text is a word, and f is the form of that word.
 abbrev pub HasForm : String → Form → Type 0
@@ -71,6 +74,13 @@ pub record IsPhrased (s : List ℕ) (t : String) : Type 0 where
   pub recorded : encode (productForm powers) ≡ s
   pub phrased : textIn s (ascii t) ≡ accepted (ascii t)
 
+-- What a filing answers, and the register that it leaves.
+pub record IsEntered (t : String) (h : ℕ) (s : List ℕ) (y : Reply) (s′ : List ℕ) : Type 0 where
+  pub word : Word
+  pub text : wordOf t ≡ some word
+  pub answer : then (enteredWord s h word) (λ x. accepted (x .answer)) ≡ accepted y
+  pub left : registerAfter (enteredWord s h word) s ≡ s′
+
 -- 010000020000 and 01000400010001020000, byte by byte.
 abbrev pub emptyRecord : List ℕ
 emptyRecord = 1 ∷ 0 ∷ 0 ∷ 2 ∷ 0 ∷ 0 ∷ []
@@ -101,6 +111,28 @@ x2 = level 0 0 x1
 
 abbrev pub x3 : Form
 x3 = level 0 0 x2
+
+-- Fresh registers: 10000400000000, then bytes 00, 26 bytes in all; the same, one byte 00 and 25 bytes FF.
+abbrev pub fresh26 : List ℕ
+fresh26 = 16 ∷ 0 ∷ 4 ∷ 0 ∷ 0 ∷ 0 ∷ 0 ∷ replicate 19 0
+
+abbrev pub fresh33 : List ℕ
+fresh33 = 16 ∷ 0 ∷ 4 ∷ 0 ∷ 0 ∷ 0 ∷ 0 ∷ 0 ∷ replicate 25 255
+
+-- 10000400000001 and the entry 110010 00000001 0000 01000400000001020000: number 1, holder 0, the record of `a`.
+abbrev pub filedA : List ℕ
+filedA =
+    16 ∷ 0 ∷ 4 ∷ 0 ∷ 0 ∷ 0 ∷ 1
+    ∷ 17 ∷ 0 ∷ 16 ∷ 0 ∷ 0 ∷ 0 ∷ 1 ∷ 0 ∷ 0
+    ∷ 1 ∷ 0 ∷ 4 ∷ 0 ∷ 0 ∷ 0 ∷ 1 ∷ 2 ∷ 0 ∷ 0 ∷ []
+
+-- The same with the record 01000400030001020000 of `BAbab`, then one byte 00, and the last 6 bytes as they were.
+abbrev pub filedBAbab : List ℕ
+filedBAbab =
+    16 ∷ 0 ∷ 4 ∷ 0 ∷ 0 ∷ 0 ∷ 1
+    ∷ 17 ∷ 0 ∷ 16 ∷ 0 ∷ 0 ∷ 0 ∷ 1 ∷ 0 ∷ 0
+    ∷ 1 ∷ 0 ∷ 4 ∷ 0 ∷ 3 ∷ 0 ∷ 1 ∷ 2 ∷ 0 ∷ 0
+    ∷ 0 ∷ replicate 6 255
 
 -- The row of a kind in the table of weights, in 01's order.
 abbrev pub weightRow : Kind → List ℕ
@@ -173,3 +205,12 @@ pub record WorkedForms : Type 0 where
   pub dead-end-spelling : wordOf "aabAAAAAbaaaB" ≡ some (spelling deadEnd)
   pub dead-end-minus : kinds (minusTree deadEnd) ≡ L0 ∷ LL ∷ LL ∷ I0 ∷ R0 ∷ R0 ∷ R0 ∷ R0 ∷ []
   pub dead-end-plus : kinds (plusTree deadEnd) ≡ L0 ∷ I0 ∷ LL ∷ LL ∷ RN ∷ RI ∷ I0 ∷ R0 ∷ []
+
+-- Filings of 02, [3].
+pub record WorkedRegisters : Type 0 where
+  -- `a`, holder 0, into a fresh register that it fills: a new entry with number 1.
+  pub entered-a : IsEntered "a" 0 fresh26 (newEntry 1) filedA
+  -- `BAbab`, holder 0, into a fresh register with 7 bytes more: a new entry with number 1.
+  pub entered-BAbab : IsEntered "BAbab" 0 fresh33 (newEntry 1) filedBAbab
+  -- `AAbaa`, the same element, holder 7, into what that left: entry 1 is there already, and nothing is changed.
+  pub entered-AAbaa : IsEntered "AAbaa" 7 filedBAbab (present 1) filedBAbab

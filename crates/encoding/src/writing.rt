@@ -1,4 +1,4 @@
-// The record's bytes, written into a lent buffer: numbers, entries, fields, the whole.
+// The record's bytes, written into a lent buffer: entries, fields, the whole.
 // Each writer answers the place behind what it wrote.
 ghost use mathlib.Core.Path.{_≡_};
 ghost use mathlib.Core.List.{[]};
@@ -7,20 +7,11 @@ ghost use lib.ListN.{length};
 ghost use Rattle.group.specs.Limits.{limit};
 ghost use Rattle.lists.specs.inside.Writes.{Wrote};
 ghost use Rattle.records.specs.Format.{powers, putPower, entries, recordOf, baseSize};
-ghost use Rattle.fields.specs.Fields.{twoBytes, field};
+ghost use Rattle.fields.specs.Fields.{field};
 ghost use Rattle.encoding.specs.inside.Bodies.{encodeBody, Counted};
+use fields::integers::put_two;
 use records::A_TAG;
 use records::B_TAG;
-
-// A number in two bytes, high byte first.
-fn put_two(out: &mut [u8], at: usize, x: usize) -> usize
-    requires { ⌜ (at + 2 ≤ length (now out)) × (x < 65536) ⌝ }
-    ensures { λ r. ⌜ Wrote (twoBytes x) (now (out .entry)) at (now (out .exit)) r ⌝ }
-{
-    out[at] = (x / 256) as u8;
-    out[at + 1] = (x % 256) as u8;
-    at + 2
-}
 
 // The entry of an index and an exponent; none for exponent 0.
 fn put_entry(out: &mut [u8], at: usize, index: usize, exponent: u16) -> usize

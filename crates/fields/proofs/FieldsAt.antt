@@ -8,8 +8,8 @@ use lib.ListN.{length, getD}
 use lib.Dec.{eqb, ltb}
 use borrow.Author.Tests.{ltb-false, eqb-true, lt-ltb, le-ltb, eq-eqb, ne-eqb}
 use Rattle.fields.specs.declared.Field.the-variants.{Body, Missing}
-use Rattle.fields.specs.Fields.{twoAt}
-use Rattle.fields.specs.inside.Reading.{headSize, fieldAt}
+use Rattle.fields.specs.Fields.{twoAt, headSize}
+use Rattle.fields.specs.inside.Reading.{fieldAt}
 
 -- The length that is read byte by byte.
 pub size-read : (s : List ℕ) (at n : ℕ) → n ≡ 256 * getD s (at + 1) 0 + getD s (at + 2) 0 → n ≡ twoAt s (at + 1)

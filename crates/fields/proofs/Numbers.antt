@@ -8,8 +8,7 @@ use native.Mathlib.Numerals.{add-one}
 use native.Mathlib.Omega.{arith}
 use lib.ListN.{length, getD, drop}
 use lib.Seq.{drop-cons, drop-drop, getD-drop}
-use Rattle.fields.specs.Fields.{Bytes, twoBytes, twoAt}
-use Rattle.fields.specs.inside.FourBytes.{fourBytes, fourAt}
+use Rattle.fields.specs.Fields.{Bytes, twoBytes, twoAt, fourBytes, fourAt}
 
 -- What follows a later offset, by what follows an earlier one.
 pub drop-on : (s t : List ℕ) (at k m : ℕ) → drop at s ≡ t → m ≡ at + k → drop m s ≡ drop k t

@@ -5,8 +5,7 @@ use Prim.Native.Nat.{ℕ, _+_, _<_, _≤_}
 use lib.ListN.{length}
 use borrow.Author.Tests.{lt-ltb, le-ltb}
 use Rattle.refusals.specs.Outcomes.{accepted, refused}
-use Rattle.fields.specs.Fields.{field}
-use Rattle.fields.specs.inside.Reading.{headSize}
+use Rattle.fields.specs.Fields.{field, headSize}
 use Rattle.fields.specs.inside.Writing.{mostBody, fieldIn}
 
 module _ (tag : ℕ) (body out : List ℕ) where

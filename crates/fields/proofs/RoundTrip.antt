@@ -7,8 +7,8 @@ use native.Mathlib.Omega.{arith}
 use lib.ListN.{length, take, drop, length-append, length-drop, length-take, take-append-drop}
 use lib.Seq.{drop-cons, drop-drop}
 use Rattle.fields.specs.declared.Field.the-variants.{Body}
-use Rattle.fields.specs.Fields.{Bytes, twoBytes, twoAt, field}
-use Rattle.fields.specs.inside.Reading.{headSize, fieldAt}
+use Rattle.fields.specs.Fields.{Bytes, twoBytes, twoAt, field, headSize}
+use Rattle.fields.specs.inside.Reading.{fieldAt}
 use Rattle.fields.proofs.Numbers.{drop-on, read-at, two-read, two-written}
 use Rattle.fields.proofs.FieldsAt.{Found, field-found, field-opens}
 

@@ -1,5 +1,4 @@
--- Numbers in four bytes; a field read at a place, and written at the front of a buffer.
+-- A field read at a place, and written at the front of a buffer.
 -- Inside: no claim reaches these definitions; a reader of the claims need not believe them.
-pub mod FourBytes
 pub mod Reading
 pub mod Writing

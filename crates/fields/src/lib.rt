@@ -5,11 +5,13 @@ ghost use Prim.Native.Nat.{_+_, _*_, _≤_};
 ghost use lib.ListN.{length};
 ghost use Rattle.lists.specs.inside.Writes.{Wrote};
 ghost use Rattle.refusals.specs.Placing.{Placed};
-ghost use Rattle.fields.specs.Fields.{twoBytes};
-ghost use Rattle.fields.specs.inside.Reading.{headSize, fieldAt};
+ghost use Rattle.fields.specs.Fields.{twoBytes, headSize};
+ghost use Rattle.fields.specs.inside.Reading.{fieldAt};
 ghost use Rattle.fields.specs.inside.Writing.{mostBody, fieldIn};
 use refusals::Refusal;
 use refusals::Reply;
+
+pub mod integers;
 
 // The bytes of a field in front of its body: the tag, and two for the length.
 pub const HEAD_SIZE: usize = 3;

@@ -4,8 +4,8 @@ use mathlib.Core.List.{List}
 use Prim.Native.Nat.{ℕ, _+_, _%_, _≤_}
 use native.Mathlib.Omega.{arith}
 use lib.ListN.{length, getD}
-use Rattle.fields.specs.Fields.{twoAt}
-use Rattle.fields.specs.inside.Reading.{headSize, fieldAt}
+use Rattle.fields.specs.Fields.{twoAt, headSize}
+use Rattle.fields.specs.inside.Reading.{fieldAt}
 use Rattle.fields.specs.declared.Field.the-variants.{Body, Missing}
 use Rattle.fields.proofs.FieldsAt.{Found, field-found, field-opens}
 use Rattle.records.specs.declared.frame.Frame.the-variants.{Exact, Broken}

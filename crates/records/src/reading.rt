@@ -4,11 +4,11 @@ ghost use Prim.Native.Nat.{_+_, _*_, _/_, _≤_, _<_};
 ghost use lib.ListN.{length};
 ghost use Rattle.group.specs.Limits.{limit};
 ghost use Rattle.refusals.specs.Outcomes.{verdictOf, dropValue};
-ghost use Rattle.fields.specs.Fields.{twoAt};
 ghost use Rattle.records.specs.Reading.{entriesAt, isFaulty, scan as scanned};
 ghost use Rattle.records.specs.inside.Steps.{frameOf, scanOf, scanBoth};
 use crate::BASE_SIZE;
 use crate::frame::Frame;
+use fields::integers::number_at;
 use refusals::LIMIT;
 use refusals::Refusal;
 use refusals::Verdict;
@@ -17,15 +17,6 @@ use refusals::Verdict;
 pub enum Scan {
     Sum(usize),
     Fault(usize),
-}
-
-// The two-byte number at an offset.
-pub fn number_at(s: &[u8], at: usize) -> usize
-    requires { ⌜ at + 1 < length (now s) ⌝ }
-    ensures { λ r. ⌜ r ≡ twoAt (now (s .entry)) at ⌝ }
-    ensures { λ r. ⌜ r < 65536 ⌝ }
-{
-    fields::number(s[at], s[at + 1])
 }
 
 // Whether an entry breaks a rule; `low` is one above the index before it.

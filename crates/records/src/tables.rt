@@ -7,8 +7,8 @@ ghost use Rattle.group.specs.Limits.{limit};
 ghost use Rattle.records.specs.Reading.{entriesAt, exponentAt};
 ghost use Rattle.records.specs.inside.Steps.{Proper, Ordered, placePowers, FieldsFilled};
 use crate::BASE_SIZE;
-use crate::reading::number_at;
 use fields::HEAD_SIZE;
+use fields::integers::number_at;
 use refusals::LIMIT;
 
 // The entries up to the limit become 0.

@@ -6,7 +6,7 @@ ghost use Rattle.refusals.specs.Outcomes.{verdictOf, dropValue};
 ghost use Rattle.records.specs.Reading.{formOfPowers};
 ghost use Rattle.clause.specs.Clause.{findBreak};
 ghost use Rattle.records.specs.inside.Walking.{leftAt, passedBy, startsAt, breaksAt, Inside, Walkable};
-use crate::reading::number_at;
+use fields::integers::number_at;
 use refusals::GeneratorIndex;
 use refusals::Refusal;
 use refusals::Verdict;

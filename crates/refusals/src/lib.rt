@@ -40,6 +40,12 @@ pub enum Refusal {
     LargeExponents,
     // A text whose reduced form has an index above the limit.
     HighIndex,
+    // No well-formed register, or one that is too long.
+    BadRegister,
+    // The holder has as many live entries as a holder may have.
+    HolderFull,
+    // The entry does not fit the register, or its number would pass the highest.
+    RegisterFull,
 }
 
 // Accepted or refused: the answer of calls that write nothing.
@@ -77,6 +83,9 @@ pub fn number(r: Refusal) -> u8
         Refusal::Misspelled(_) => 9,
         Refusal::LargeExponents => 10,
         Refusal::HighIndex => 11,
+        Refusal::BadRegister => 12,
+        Refusal::HolderFull => 13,
+        Refusal::RegisterFull => 14,
     }
 }
 
@@ -96,6 +105,9 @@ pub fn place(r: Refusal) -> usize
         Refusal::Misspelled(offset) => offset,
         Refusal::LargeExponents => 0,
         Refusal::HighIndex => 0,
+        Refusal::BadRegister => 0,
+        Refusal::HolderFull => 0,
+        Refusal::RegisterFull => 0,
     }
 }
 

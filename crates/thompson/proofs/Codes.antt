@@ -1,5 +1,5 @@
--- The two numbers of an answer are read back as what the answer says, and a refusal of the first word has the paper's
--- own number. Assumes nothing.
+-- The numbers of an answer are read back as what the answer says, and a refusal of the first word has the paper's own
+-- number. Assumes nothing.
 use mathlib.Core.Path.{_≡_, refl, ap, ap₂}
 use Prim.Native.Nat.{ℕ, zero, suc, _+_, _*_, _/_, _%_, _<_}
 use native.Mathlib.Omega.{arith}
@@ -8,6 +8,7 @@ use Rattle.refusals.specs.declared.Refusal.{Refusal}
 use Rattle.refusals.specs.declared.Refusal.the-variants.{TooManyLetters, NotLetter, BadFrame, BadEntry}
 use Rattle.refusals.specs.declared.Refusal.the-variants.{NotReduced, ShortTable, ShortBuffer, LongSpelling}
 use Rattle.refusals.specs.declared.Refusal.the-variants.{Misspelled, LargeExponents, HighIndex}
+use Rattle.refusals.specs.declared.Refusal.the-variants.{BadRegister, HolderFull, RegisterFull}
 use Rattle.refusals.specs.declared.Verdict.{Verdict}
 use Rattle.refusals.specs.declared.Verdict.the-variants as Verdicts
 use Rattle.refusals.specs.declared.Reply.{Reply}
@@ -17,7 +18,12 @@ use Rattle.refusals.specs.Outcomes.{refused, refusal, verdictOf, replyOf}
 use Rattle.words.specs.declared.Comparison.{Comparison}
 use Rattle.words.specs.declared.Comparison.the-variants.{Same, Different, First, Second}
 use Rattle.words.specs.Comparing.{refusedWord, decisionOf}
-use Rattle.thompson.specs.Codes.{answer, codeOf, codeOfDecision}
+use Rattle.updates.specs.declared.AccountOf.{AccountOf}
+use Rattle.updates.specs.declared.AccountOf.the-variants as Accounts
+use Rattle.updates.specs.declared.Entered.{Entered}
+use Rattle.updates.specs.declared.Entered.the-variants as Answers
+use Rattle.updates.specs.Entering.{enteredOf, repliedOf}
+use Rattle.thompson.specs.Codes.{answer, codeOf, codeOfDecision, codeOfEntered, liveOf, readReply, replyIn}
 use Rattle.thompson.specs.Codes.{readOutcome, outcomeOf, readDecision, decisionIn}
 
 pub first-code : (r : Refusal) → codeOf (refusal r) ≡ codeOfDecision (decisionOf (First r))
@@ -37,6 +43,9 @@ number-some LongSpelling = (lit< tt, lit< tt)
 number-some (Misspelled offset) = (lit< tt, lit< tt)
 number-some LargeExponents = (lit< tt, lit< tt)
 number-some HighIndex = (lit< tt, lit< tt)
+number-some BadRegister = (lit< tt, lit< tt)
+number-some HolderFull = (lit< tt, lit< tt)
+number-some RegisterFull = (lit< tt, lit< tt)
 
 -- So it is read as a refusal, and the word beside it is parted from it.
 read-number : (n place : ℕ) → 0 < n → readOutcome n place ≡ refused n place
@@ -70,3 +79,17 @@ comparison-read Same = refl
 comparison-read Different = refl
 comparison-read (First r) = read-word 0 (numberOf r) (placeOf r) (number-some r .0) (number-some r .1)
 comparison-read (Second r) = read-word 1 (numberOf r) (placeOf r) (number-some r .0) (number-some r .1)
+
+pub live-read : (a : AccountOf) → outcomeOf (codeOf (liveOf a)) ≡ liveOf a
+live-read (Accounts.Found x) = refl
+live-read (Accounts.Refused r) = refusal-read r
+
+-- What is read in the four numbers of a filing.
+read-refused : (n place held : ℕ) → 0 < n → readReply n place held ≡ refused n place
+read-refused zero place held h = absurd (omega arith)
+read-refused (suc n) place held h = refl
+
+pub entered-read : (e : Entered) → replyIn (codeOfEntered (enteredOf e)) ≡ repliedOf e
+entered-read (Answers.New k a) = refl
+entered-read (Answers.Present k a) = refl
+entered-read (Answers.Refused r) = read-refused (numberOf r) (placeOf r) 0 (number-some r .0)

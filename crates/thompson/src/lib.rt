@@ -1,5 +1,6 @@
 // The calls for C and Rust. Each passes on to the proved call and answers two numbers: the refusal's number and place,
-// or 0 and the call's value. In the two-word call 256 is added to the number where the second word is refused.
+// or 0 and the call's value. In the two-word call 256 is added to the number where the second word is refused. A filing
+// answers two numbers more.
 ghost use mathlib.Core.Path.{_≡_};
 ghost use Rattle.refusals.specs.Outcomes.{verdictOf, replyOf};
 ghost use Rattle.records.specs.Checking.{Checked};
@@ -8,10 +9,15 @@ ghost use Rattle.words.specs.Comparing.{decisionOf, Compared};
 ghost use Rattle.pairs.specs.Contracts.{Paired, Measured};
 ghost use Rattle.spelling.specs.Contracts.{Spelled};
 ghost use Rattle.notation.specs.Contracts.{TextRecorded, TextWritten};
-ghost use Rattle.thompson.specs.Codes.{codeOf, codeOfDecision, Passed};
+ghost use Rattle.registers.specs.Answers.{RegisterChecked};
+ghost use Rattle.updates.specs.Accounts.{AccountRead};
+ghost use Rattle.updates.specs.Entering.{enteredOf, EnteredWord};
+ghost use Rattle.thompson.specs.Codes.{codeOf, codeOfDecision, codeOfEntered, liveOf, Passed};
 use refusals::Refusal;
 use refusals::Reply;
 use refusals::Verdict;
+use updates::AccountOf;
+use updates::Entered;
 use words::Comparison;
 
 // A refusal's number and place, or 0 and the call's value.
@@ -19,6 +25,16 @@ use words::Comparison;
 pub struct Answer {
     pub refusal: u64,
     pub value: u64,
+}
+
+// A filing's answer: a refusal's number and place, or 0 and the entry's number; 1 where that entry held the element
+// before, else 0; and the word that this is said of, 0 where one word is filed.
+#[repr(C)]
+pub struct Filing {
+    pub refusal: u64,
+    pub value: u64,
+    pub present: u64,
+    pub word: u64,
 }
 
 // The two numbers of a refusal.
@@ -82,6 +98,45 @@ fn from_comparison(c: Comparison) -> Answer
         },
         Comparison::First(r) => refused(r),
         Comparison::Second(r) => second(r),
+    }
+}
+
+// The value is the live count.
+fn from_account(a: AccountOf) -> Answer
+    ensures { λ s. ⌜ s ≡ codeOf (liveOf a) ⌝ }
+{
+    match a {
+        AccountOf::Found(account) => Answer {
+            refusal: 0,
+            value: account.live,
+        },
+        AccountOf::Refused(r) => refused(r),
+    }
+}
+
+// The four numbers of a filing.
+fn from_entered(e: Entered) -> Filing
+    ensures { λ s. ⌜ s ≡ codeOfEntered (enteredOf e) ⌝ }
+{
+    match e {
+        Entered::New(n, _) => Filing {
+            refusal: 0,
+            value: n as u64,
+            present: 0,
+            word: 0,
+        },
+        Entered::Present(n, _) => Filing {
+            refusal: 0,
+            value: n as u64,
+            present: 1,
+            word: 0,
+        },
+        Entered::Refused(r) => Filing {
+            refusal: refusals::number(r) as u64,
+            value: refusals::place(r) as u64,
+            present: 0,
+            word: 0,
+        },
     }
 }
 
@@ -192,4 +247,38 @@ pub extern "C" fn thompson_same_element(
         a_table2,
         record2,
     ))
+}
+
+// A word filed into a register under a holder; the value is the entry's number.
+#[no_mangle]
+pub extern "C" fn thompson_enter_word(
+    word: &[u8],
+    b_table: &mut [u16],
+    a_table: &mut [u16],
+    record: &mut [u8],
+    holder: u16,
+    register: &mut [u8],
+) -> Filing
+    ensures { λ r. ⌜ Passed (λ a. codeOfEntered (enteredOf a)) (EnteredWord (now (word .entry))
+        (memory (now («b_table» .entry)) (now («a_table» .entry)) (now («record» .entry)))
+        (memory (now («b_table» .exit)) (now («a_table» .exit)) (now («record» .exit)))
+        holder (now (register .entry)) (now (register .exit))) r ⌝ }
+{
+    from_entered(updates::enter_word(word, b_table, a_table, record, holder, register))
+}
+
+// Register check; the value is 0.
+#[no_mangle]
+pub extern "C" fn thompson_check_register(register: &[u8]) -> Answer
+    ensures { λ r. ⌜ Passed (λ a. codeOf (verdictOf a)) (RegisterChecked (now (register .entry))) r ⌝ }
+{
+    from_verdict(registers::check_register(register))
+}
+
+// The live entries of a holder; the value is their number.
+#[no_mangle]
+pub extern "C" fn thompson_live_entries(register: &[u8], holder: u16) -> Answer
+    ensures { λ r. ⌜ Passed (λ a. codeOf (liveOf a)) (AccountRead (now (register .entry)) holder) r ⌝ }
+{
+    from_account(updates::account_of(register, holder))
 }

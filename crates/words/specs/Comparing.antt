@@ -36,8 +36,8 @@ decided (refused number place) second = refusedWord 0 number place
 decided (accepted u) (refused number place) = refusedWord 1 number place
 decided (accepted u) (accepted v) = verdictBy (sameBytes (encodeWord u) (encodeWord v))
 
--- A word's own outcome, where the other word is accepted too; else a refusal.
-abbrev pub beside : Outcome Word → Outcome Word → Outcome Word
+-- A word's own outcome, where what is judged beside it is accepted too; else a refusal.
+abbrev pub beside : {A B : Type 0} → Outcome A → Outcome B → Outcome A
 beside own (accepted v) = own
 beside own (refused number place) = refused number place
 

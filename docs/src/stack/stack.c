@@ -13,9 +13,10 @@
 static uint8_t word[LETTERS], record1[THOMPSON_RECORD(LETTERS)], record2[THOMPSON_RECORD(LETTERS)];
 static uint8_t t_minus[THOMPSON_SHAPE(THOMPSON_CARETS)], t_plus[THOMPSON_SHAPE(THOMPSON_CARETS)];
 static uint16_t b1[LETTERS + 1], a1[LETTERS + 1], b2[LETTERS + 1], a2[LETTERS + 1];
-static uint8_t text[THOMPSON_TEXT(LETTERS)];
+static uint8_t text[THOMPSON_TEXT(LETTERS)], filed[THOMPSON_REGISTER_MOST];
 static size_t length, text_length;
 static thompson_answer answer;
+static thompson_filing filing;
 
 static void *nothing(void *p) { return p; }
 
@@ -62,6 +63,22 @@ static void *record_to_tree_pair(void *p) {
 
 static void *record_to_length(void *p) {
     answer = thompson_record_to_length(record1, length);
+    return p;
+}
+
+static void *enter_word(void *p) {
+    filing = thompson_enter_word(word, LETTERS, b1, LETTERS + 1, a1, LETTERS + 1, record2, sizeof record2, 1, filed,
+                                 sizeof filed);
+    return p;
+}
+
+static void *check_register(void *p) {
+    answer = thompson_check_register(filed, sizeof filed);
+    return p;
+}
+
+static void *live_entries(void *p) {
+    answer = thompson_live_entries(filed, sizeof filed, 1);
     return p;
 }
 
@@ -133,6 +150,27 @@ static const struct {
     {"x_0^m x_1 x_0^-m", "left; left", low_both},
 };
 
+/* A register with the record of record1 as its one entry, number 1 of holder 0. */
+static void put_register(void) {
+    size_t body = 6 + length;
+    const uint8_t front[] = {0x10, 0, 4, 0, 0, 0, 1, 0x11, body >> 8, body, 0, 0, 0, 1, 0, 0};
+    memset(filed, 0, sizeof filed);
+    memcpy(filed, front, sizeof front);
+    memcpy(filed + sizeof front, record1, length);
+}
+
+static void register_calls(size_t none) {
+    put_register();
+    printf("a word entered         %zu bytes more\n", depth(enter_word) - none);
+    if (filing.value != 2 || filing.present) printf("entry %d, present %d\n", (int)filing.value, (int)filing.present);
+    printf("  again, now present   %zu bytes more\n", depth(enter_word) - none);
+    if (filing.value != 2 || !filing.present) printf("entry %d, present %d\n", (int)filing.value, (int)filing.present);
+    printf("register check         %zu bytes more\n", depth(check_register) - none);
+    if (answer.refusal != 0) printf("refused with %d\n", (int)answer.refusal);
+    printf("live entries           %zu bytes more\n", depth(live_entries) - none);
+    if (answer.value != 1) printf("%d live entries\n", (int)answer.value);
+}
+
 static void tree_calls(const char *name, void *(*call)(void *), size_t none) {
     printf("\n%s\n", name);
     printf("  form, n = 4096    T-; T+                         carets    bytes  carets    bytes  bytes a caret\n");
@@ -174,6 +212,7 @@ int main(void) {
     if (answer.refusal != 0) printf("refused with %d\n", (int)answer.refusal);
     printf("  its buffer too short %zu bytes more\n", depth(short_text_to_record) - none);
     if (answer.refusal != 7) printf("refused with %d\n", (int)answer.refusal);
+    register_calls(none);
     tree_calls("record to tree pair", record_to_tree_pair, none);
     tree_calls("record to length", record_to_length, none);
     return 0;

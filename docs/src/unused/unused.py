@@ -20,9 +20,6 @@ from pathlib import Path
 # What nothing uses and is kept: the crate, the file, the name, and why. The name `*` keeps a whole file.
 KEPT = [
     ("lists", "proofs/Front.antt", "*", "the law of a loop that writes a list from the left, for functions to come"),
-    ("fields", "specs/inside/FourBytes.antt", "*", "four-byte numbers, for registers and lengths to come"),
-    ("fields", "proofs/Numbers.antt", "four-read", "a four-byte number is read from bytes, for the same"),
-    ("fields", "proofs/Numbers.antt", "four-written", "a four-byte number that was written is read back, for the same"),
     ("fields", "proofs/RoundTrip.antt", "*", "a field that was written is read back, for fields with other tags"),
 ]
 

@@ -7,11 +7,7 @@ use lib.ListN.{length, getD}
 use lib.Dec.{eqb, ltb}
 use Rattle.fields.specs.declared.Field.{Field}
 use Rattle.fields.specs.declared.Field.the-variants.{Body, Missing}
-use Rattle.fields.specs.Fields.{twoAt}
-
--- The bytes of a field in front of its body.
-abbrev pub headSize : ℕ
-headSize = 3
+use Rattle.fields.specs.Fields.{twoAt, headSize}
 
 -- The field with a tag at a place, by the length of its body: the tag stands there, and the body ends within the bytes.
 abbrev pub fieldAt : List ℕ → (at tag : ℕ) → Field

@@ -7,8 +7,7 @@ use lib.ListN.{length}
 use lib.Dec.{ltb}
 use Rattle.refusals.specs.Outcomes.{Outcome, refused}
 use Rattle.refusals.specs.Placing.{fitting}
-use Rattle.fields.specs.Fields.{field}
-use Rattle.fields.specs.inside.Reading.{headSize}
+use Rattle.fields.specs.Fields.{field, headSize}
 
 -- The most bytes of a body.
 abbrev pub mostBody : ℕ

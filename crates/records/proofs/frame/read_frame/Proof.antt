@@ -4,7 +4,8 @@ use Prim.Native.Nat.{_+_, _≤_}
 use native.Mathlib.Omega.{arith}
 use borrow.Author.Needs.{needs}
 use lib.ListN.{length}
-use Rattle.fields.specs.inside.Reading.{headSize, fieldAt}
+use Rattle.fields.specs.Fields.{headSize}
+use Rattle.fields.specs.inside.Reading.{fieldAt}
 use Rattle.fields.specs.declared.Field.the-variants.{Body}
 use Rattle.records.specs.Format.{bTag, aTag, baseSize}
 use Rattle.records.proofs.FramedFields.{framed-no-first, framed-first, framed-no-second, framed-second}

@@ -1,0 +1,20 @@
+-- `value` is safe. Assumes nothing.
+use Prim.Native.Nat.{_-_}
+use lib.ListN.{length}
+use native.Mathlib.Omega.{arith}
+use Rattle.register.proofs.command.value.Statement.{statement}
+use Rattle.register.proofs.command.value.Tie as tie
+
+pub value-spec : {M : Type 1} → statement M
+value-spec =
+    tie.close
+    (tie.spec
+    (λ digits value₀ i₀ value i. Unit {0})
+    (λ digits value₀ i₀ value i. length digits - i)
+    (λ c. tt)
+    (λ c. omega arith)
+    (λ c κs. tt)
+    (λ c. omega arith)
+    (λ c. omega arith)
+    (λ c. tt)
+    (λ c. tt))
