@@ -12,7 +12,7 @@ static uint8_t word[THOMPSON_LIMIT + 1], record[THOMPSON_RECORD(THOMPSON_LIMIT)]
 static uint16_t b_table[THOMPSON_TABLE(THOMPSON_LIMIT)], a_table[THOMPSON_TABLE(THOMPSON_LIMIT)];
 static uint16_t b_table2[1], a_table2[1];
 static uint8_t t_minus[THOMPSON_SHAPE(THOMPSON_CARETS)], t_plus[THOMPSON_SHAPE(THOMPSON_CARETS)];
-static uint8_t filed[THOMPSON_REGISTER_MOST + 1];
+static uint8_t filed[THOMPSON_REGISTER_MOST + 1], records[THOMPSON_LIST(2, 2 * THOMPSON_LIMIT + 1)];
 static int wrong;
 
 static void row(const char *what, thompson_answer answer, uint64_t refusal, uint64_t value) {
@@ -142,6 +142,38 @@ static void text_sizes(void) {
     row("the text buffer one byte short", text_back(all, n - 1), 7, 0);
 }
 
+/* A list, with tables and an output that are so many elements short of its lines and bytes. */
+static thompson_answer list_sent(const char *list, size_t lines, size_t bytes, size_t b_short, size_t a_short,
+                                 size_t short_by) {
+    return thompson_list_to_records((const uint8_t *)list, strlen(list), b_table, THOMPSON_FULL_TABLE - b_short,
+                                    a_table, THOMPSON_FULL_TABLE - a_short, records,
+                                    THOMPSON_LIST(lines, bytes) - short_by);
+}
+
+/* The sizes of the header, for lists. */
+static void list_sizes(void) {
+    static char list[2 * THOMPSON_LIMIT + 4];
+    printf("lists: refusal, value\n");
+    row("nothing lent", thompson_list_to_records(0, 0, 0, 0, 0, 0, 0, 0), 6, 0);
+    row("no list and no output", list_sent("", 0, 0, 0, 0, 0), 0, 0);
+    row("no list, the a table one entry short", list_sent("", 0, 0, 0, 1, 0), 6, 0);
+    row("an empty line", list_sent("\n", 1, 0, 0, 0, 0), 0, 6);
+    row("the output one byte short", list_sent("\n", 1, 0, 0, 0, 1), 7, 0);
+    row("a refused word alone", list_sent("x", 1, 1, 0, 0, 0), 0, THOMPSON_REFUSED_ITEM);
+    row("the output one byte short", list_sent("x", 1, 1, 0, 0, 1), 7, 0);
+    row("three lines", list_sent("ba\naxb\nA\n", 3, 6, 0, 0, 0), 0, 14 + THOMPSON_REFUSED_ITEM + 10);
+    row("the last one unended", list_sent("ba\naxb\nA", 3, 6, 0, 0, 0), 0, 14 + THOMPSON_REFUSED_ITEM + 10);
+    row("the b table one entry short", list_sent("ba\naxb\nA\n", 3, 6, 1, 0, 0), 6, 0);
+    row("the a table one entry short", list_sent("ba\naxb\nA\n", 3, 6, 0, 1, 0), 6, 0);
+    row("the output one byte short", list_sent("ba\naxb\nA\n", 3, 6, 0, 0, 1), 7, 0);
+    memset(list, 'a', THOMPSON_LIMIT);
+    memset(list + THOMPSON_LIMIT + 1, 'a', THOMPSON_LIMIT + 1);
+    list[THOMPSON_LIMIT] = '\n';
+    row("THOMPSON_LIMIT letters, then one more", list_sent(list, 2, 2 * THOMPSON_LIMIT + 1, 0, 0, 0), 0,
+        10 + THOMPSON_REFUSED_ITEM);
+    row("the output one byte short", list_sent(list, 2, 2 * THOMPSON_LIMIT + 1, 0, 0, 1), 7, 0);
+}
+
 /* A fresh register of n bytes. */
 static void put_fresh(size_t n) {
     memset(filed, 0, n);
@@ -186,6 +218,7 @@ int main(void) {
     null_pointers();
     sizes();
     text_sizes();
+    list_sizes();
     register_sizes();
     return wrong;
 }

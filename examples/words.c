@@ -1,11 +1,12 @@
 /* A program in C over libthompson.a: for each word on the command line its record, its tree pair and its length, a word
    that the record spells, its text in subscript notation, and its entry in a register of the words before it, each word
-   with a holder of its own.
+   with a holder of its own; then the records of all words in one call.
        words abA ba */
 #include "thompson.h"
 
 #include <inttypes.h>
 #include <stdio.h>
+#include <stdlib.h>
 #include <string.h>
 
 static uint16_t b_table[THOMPSON_TABLE(THOMPSON_LIMIT)], a_table[THOMPSON_TABLE(THOMPSON_LIMIT)];
@@ -61,7 +62,42 @@ static void print_word(const char *word, uint16_t holder) {
         printf("  entry %" PRIu64 " %s\n", filing.value, filing.present ? "present" : "new");
 }
 
+/* The bytes of a field, with its tag and its length. */
+static size_t field_size(const uint8_t *field) { return 3 + 256 * (size_t)field[1] + field[2]; }
+
+/* Prints an item of a list, and gives its bytes: six for a refused word, else the two fields of a record. */
+static size_t print_item(const uint8_t *item) {
+    if (item[0] == THOMPSON_REFUSED_TAG) {
+        printf("  refused %d, place %d\n", item[3], 256 * item[4] + item[5]);
+        return THOMPSON_REFUSED_ITEM;
+    }
+    size_t first = field_size(item), n = first + field_size(item + first);
+    print_hexadecimal("record", item, n);
+    return n;
+}
+
+/* All words in one call, each a line of a list; the output is gone through by its tags. */
+static void print_list(char **words, size_t count) {
+    size_t bytes = 0, end = 0;
+    for (size_t i = 0; i < count; i++) bytes += strlen(words[i]);
+    uint8_t *list = malloc(bytes + count + 1), *records = malloc(THOMPSON_LIST(count, bytes) + 1);
+    if (!list || !records) exit(1);
+    for (size_t i = 0; i < count; i++) {
+        memcpy(list + end, words[i], strlen(words[i]));
+        end += strlen(words[i]);
+        list[end++] = '\n';
+    }
+    thompson_answer listed = thompson_list_to_records(list, end, b_table, THOMPSON_FULL_TABLE, a_table,
+                                                      THOMPSON_FULL_TABLE, records, THOMPSON_LIST(count, bytes));
+    printf("list\n");
+    if (accepted("records", listed))
+        for (size_t at = 0; at < listed.value;) at += print_item(records + at);
+    free(list);
+    free(records);
+}
+
 int main(int argc, char **argv) {
     for (int i = 1; i < argc; i++) print_word(argv[i], (uint16_t)i);
+    if (argc > 1) print_list(argv + 1, (size_t)argc - 1);
     return 0;
 }

@@ -1,7 +1,8 @@
 // A program in Rust over libthompson.a: for each word on the command line its record, its tree pair and its length, a
 // word that the record spells, its text in subscript notation, and its entry in a register of the words before it, each
-// word with a holder of its own. The module `thompson` is a safe face of the calls: a Rust slice is a valid pointer
-// with its length, and a `&mut` slice overlaps nothing else, which is all that the calls ask.
+// word with a holder of its own; then the records of all words in one call. The module `thompson` is a safe face of the
+// calls: a Rust slice is a valid pointer with its length, and a `&mut` slice overlaps nothing else, which is all that
+// the calls ask.
 //     words abA ba
 
 mod thompson {
@@ -49,6 +50,16 @@ mod thompson {
             a_entries: usize,
             record: *mut u8,
             record_size: usize,
+        ) -> Answer;
+        fn thompson_list_to_records(
+            list: *const u8,
+            list_size: usize,
+            b_table: *mut u16,
+            b_entries: usize,
+            a_table: *mut u16,
+            a_entries: usize,
+            records: *mut u8,
+            records_size: usize,
         ) -> Answer;
         fn thompson_record_to_word(record: *const u8, record_size: usize, word: *mut u8, word_size: usize) -> Answer;
         fn thompson_record_to_text(record: *const u8, record_size: usize, text: *mut u8, text_size: usize) -> Answer;
@@ -102,6 +113,51 @@ mod thompson {
         };
         bytes.truncate(value(answer)?);
         Ok(bytes)
+    }
+
+    // The bytes of the field at a place, with its tag and its length.
+    fn field_size(bytes: &[u8], at: usize) -> usize {
+        3 + 256 * bytes[at + 1] as usize + bytes[at + 2] as usize
+    }
+
+    // The items of a list, gone through by their tags: a refused word has tag 0F hex, a record has two fields.
+    fn items(bytes: &[u8]) -> Vec<Result<Vec<u8>, Refused>> {
+        let mut items = Vec::new();
+        let mut at = 0;
+        while at < bytes.len() {
+            let first = at + field_size(bytes, at);
+            if bytes[at] == 0x0F {
+                let place = 256 * bytes[at + 4] as u64 + bytes[at + 5] as u64;
+                items.push(Err(Refused { number: bytes[at + 3] as u64, place }));
+                at = first;
+            } else {
+                let end = first + field_size(bytes, first);
+                items.push(Ok(bytes[at..end].to_vec()));
+                at = end;
+            }
+        }
+        items
+    }
+
+    // The records of many words in one call, each a line of the list.
+    pub fn records(list: &[u8]) -> Result<Vec<Result<Vec<u8>, Refused>>, Refused> {
+        let mut b = vec![0u16; LIMIT + 1];
+        let mut a = vec![0u16; LIMIT + 1];
+        let mut bytes = vec![0u8; 6 * (list.iter().filter(|&&byte| byte == b'\n').count() + 1) + 4 * list.len()];
+        let answer = unsafe {
+            thompson_list_to_records(
+                list.as_ptr(),
+                list.len(),
+                b.as_mut_ptr(),
+                b.len(),
+                a.as_mut_ptr(),
+                a.len(),
+                bytes.as_mut_ptr(),
+                bytes.len(),
+            )
+        };
+        bytes.truncate(value(answer)?);
+        Ok(items(&bytes))
     }
 
     // The word that a record spells.
@@ -199,14 +255,18 @@ fn print_refused(what: &str, refused: Refused) {
     println!("  {what}: refused {}, place {}", refused.number, refused.place);
 }
 
+fn print_hexadecimal(record: &[u8]) {
+    let hexadecimal: String = record.iter().map(|byte| format!("{byte:02x}")).collect();
+    println!("  record {hexadecimal}");
+}
+
 fn print_word(word: &[u8], holder: u16, register: &mut [u8]) {
     print_bytes("word", word);
     let record = match thompson::record(word) {
         Ok(record) => record,
         Err(refused) => return print_refused("record", refused),
     };
-    let hexadecimal: String = record.iter().map(|byte| format!("{byte:02x}")).collect();
-    println!("  record {hexadecimal}");
+    print_hexadecimal(&record);
     match thompson::tree_pair(&record) {
         Ok(pair) => println!("  carets {}\n  T- {}\n  T+ {}", pair.carets, digits(&pair.minus), digits(&pair.plus)),
         Err(refused) => print_refused("tree pair", refused),
@@ -229,9 +289,29 @@ fn print_word(word: &[u8], holder: u16, register: &mut [u8]) {
     }
 }
 
+fn print_list(words: &[Vec<u8>]) {
+    println!("list");
+    let list: Vec<u8> = words.iter().flat_map(|word| [word, &b"\n"[..]].concat()).collect();
+    match thompson::records(&list) {
+        Ok(items) => {
+            for item in items {
+                match item {
+                    Ok(record) => print_hexadecimal(&record),
+                    Err(refused) => println!("  refused {}, place {}", refused.number, refused.place),
+                }
+            }
+        }
+        Err(refused) => print_refused("records", refused),
+    }
+}
+
 fn main() {
     let mut register = thompson::fresh_register(65536);
-    for (word, holder) in std::env::args_os().skip(1).zip(1..) {
-        print_word(&word.into_vec(), holder, &mut register);
+    let words: Vec<Vec<u8>> = std::env::args_os().skip(1).map(|word| word.into_vec()).collect();
+    for (word, holder) in words.iter().zip(1..) {
+        print_word(word, holder, &mut register);
+    }
+    if !words.is_empty() {
+        print_list(&words);
     }
 }

@@ -26,6 +26,12 @@
    exponent is 1, a `^` and the exponent, which is not 0 and at most THOMPSON_LIMIT in size; decimals without leading
    zeros. An empty token, as in front of a first space, is misspelled; the empty text has none and is the empty word.
 
+   A list has a word a line: byte 0A (hexadecimal) ends a line, and an unended last line counts unless it is empty. Its
+   items stand one behind another, in the order of the lines: the record of each word, two fields, or, for a word that
+   is refused, a field of six bytes: tag 0F, length 00 03, the refusal's number (1 or 2) and its place in two bytes,
+   high byte first. A field is a one-byte tag, a two-byte length, and that many bytes; a record's first tag is 01, its
+   second 02.
+
    A register is one buffer of at most THOMPSON_REGISTER_MOST bytes, in which each element has one entry, numbered in
    the order of first filing. It begins with the last entry number given: a fresh one has the bytes 10 00 04 00 00 00 00
    (hexadecimal), and then ends or has a byte 00. A holder, any 16-bit number, has at most four entries. Each call
@@ -44,12 +50,18 @@ extern "C" {
    index and the highest sum of the sizes of exponents of a text. */
 #define THOMPSON_LIMIT 4096
 
-/* The entries that each table needs for a word of n letters, and for any text. */
+/* The entries that each table needs for a word of n letters, and for any text or list. */
 #define THOMPSON_TABLE(n) ((size_t)(n) + 1)
 #define THOMPSON_FULL_TABLE THOMPSON_TABLE(THOMPSON_LIMIT)
 
 /* The bytes that the record buffer needs for a word of n letters, or for a text whose exponents' sizes sum to n. */
 #define THOMPSON_RECORD(n) (6 + 4 * (size_t)(n))
+
+/* The bytes that the output needs for a list of so many lines, which have so many bytes without their ends; all lines
+   count, those that are refused too. The tag and the bytes of the item of a refused word. */
+#define THOMPSON_LIST(lines, bytes) (6 * (size_t)(lines) + 4 * (size_t)(bytes))
+#define THOMPSON_REFUSED_TAG 0x0F
+#define THOMPSON_REFUSED_ITEM 6
 
 /* Bytes that are enough for the text of a record whose exponents sum to n: `x4096^-1` and a space, n times. */
 #define THOMPSON_TEXT(n) (9 * (size_t)(n))
@@ -107,6 +119,16 @@ typedef struct {
    Refusals, in this order: 1, 2, 6, 7. */
 thompson_answer thompson_word_to_record(const uint8_t *word, size_t letters, uint16_t *b_table, size_t b_entries,
                                         uint16_t *a_table, size_t a_entries, uint8_t *record, size_t record_size);
+
+/* Many words in one call: what one call a word gives, with the tables as those calls leave them, one after another.
+   Lent: the list, all its bytes; two tables of at least THOMPSON_FULL_TABLE entries each; an output of at least
+   THOMPSON_LIST bytes.
+   Value: the bytes of the items, which stand at the front of the output; bytes beyond are unchanged, also inside the
+   size that the output needs. Entry i of the tables is then that of the last accepted word of at least i letters, or
+   as it was where there is none.
+   Refusals, in this order, before the first word is read: 6, 7. A refused word refuses nothing but itself. */
+thompson_answer thompson_list_to_records(const uint8_t *list, size_t list_size, uint16_t *b_table, size_t b_entries,
+                                         uint16_t *a_table, size_t a_entries, uint8_t *records, size_t records_size);
 
 /* Record check. Nothing is written.
    Lent: the record, all its bytes and no more.

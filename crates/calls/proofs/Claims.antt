@@ -1,6 +1,7 @@
 -- The theorem of all claims: the proofs, each under the name of its claim. Assumes nothing.
 use Rattle.calls.specs.Claims.{Claims}
 use Rattle.calls.proofs.Demanded as Demanded
+use Rattle.calls.proofs.DemandedOfLists as DemandedOfLists
 use Rattle.calls.proofs.DemandedOfRegisters as DemandedOfRegisters
 use Rattle.calls.proofs.Calls as Calls
 use Rattle.claims.proofs.Demands as Demands
@@ -12,6 +13,7 @@ use Rattle.claims.proofs.Trees as Trees
 use Rattle.claims.proofs.Lengths as Lengths
 use Rattle.claims.proofs.Spellings as Spellings
 use Rattle.claims.proofs.Texts as Texts
+use Rattle.claims.proofs.Lists as Lists
 use Rattle.claims.proofs.Registers as Registers
 use Rattle.claims.proofs.EnterCalls as EnterCalls
 use Rattle.claims.proofs.Receipts as Receipts
@@ -22,6 +24,7 @@ claims = record {
   demanded = Demanded.demanded;
   demanded-of-exports = Demanded.demanded-of-exports;
   one-record = Demanded.one-record;
+  demanded-of-lists = DemandedOfLists.demanded-of-lists;
   demanded-of-registers = DemandedOfRegisters.demanded-of-registers;
   calls = Calls.calls;
   exports = Calls.exports;
@@ -76,6 +79,9 @@ claims = record {
   decimals-are-numerals = Texts.decimals-are-numerals;
   texts-are-tokens = Texts.texts-are-tokens;
   texts-are-letters = Texts.texts-are-letters;
+  list-is-calls = Lists.list-is-calls;
+  some-calls = Lists.some-calls;
+  list-records-joined = Lists.list-records-joined;
   registers-are-read = Registers.registers-are-read;
   enters-words = EnterCalls.enters-words;
   only-new-bytes = EnterCalls.only-new-bytes;

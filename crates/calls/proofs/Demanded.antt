@@ -21,8 +21,8 @@ use Rattle.records.proofs.WordForms.{form-within}
 use Rattle.tokens.specs.Texts.{textOf}
 use Rattle.notation.specs.Contracts.{TextRecorded, TextWritten}
 use Rattle.words.specs.Recording.{Memory, memory, encodeWord, Recorded}
-use Rattle.words.specs.Comparing.{Decision, decisionOf, Compared}
-use Rattle.words.specs.declared.Comparison.{Comparison}
+use Rattle.comparisons.specs.Comparing.{Decision, decisionOf, Compared}
+use Rattle.comparisons.specs.declared.Comparison.{Comparison}
 use Rattle.pairs.specs.Contracts.{Paired, Measured}
 use Rattle.spelling.specs.Contracts.{Spelled}
 use Rattle.spelling.specs.Spelling.{spelling}

@@ -2,5 +2,6 @@
 pub mod Always
 pub mod Calls
 pub mod Demanded
+pub mod DemandedOfLists
 pub mod DemandedOfRegisters
 pub mod Claims

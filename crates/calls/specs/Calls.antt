@@ -2,7 +2,7 @@
 -- with its relation. A field names the function's own code, `routine`, and the relation, so that with another contract,
 -- or with a demand on its caller, the function has no proof here. `now x` is what stands behind the reference x: of a
 -- slice its elements. proofs/Calls.antt has the proofs, which are the functions' theorems.
---     Calls     the calls of document 01, of 02, [1] and [3], and of the receipt program
+--     Calls     the calls of document 01, of 02, [1], [3] and [4], and of the receipt program
 --     Exports   the calls for C and Rust
 -- Assumes nothing.
 use mathlib.Core.Path.{_≡_}
@@ -10,7 +10,8 @@ use denote.Ref.{now}
 use Rattle.refusals.specs.Outcomes.{verdictOf, replyOf}
 use Rattle.records.specs.Checking.{Checked}
 use Rattle.words.specs.Recording.{memory, Recorded}
-use Rattle.words.specs.Comparing.{Compared, decisionOf}
+use Rattle.comparisons.specs.Comparing.{Compared, decisionOf}
+use Rattle.wordlists.specs.Listing.{Listed}
 use Rattle.pairs.specs.Contracts.{Paired, Measured}
 use Rattle.spelling.specs.Contracts.{Spelled}
 use Rattle.notation.specs.Contracts.{TextRecorded, TextWritten}
@@ -22,7 +23,8 @@ use Rattle.receipts.specs.Contracts.{Begun, ServedPart, Finished}
 use Rattle.thompson.specs.Codes.{codeOf, codeOfDecision, codeOfEntered, liveOf, Passed}
 use Rattle.calls.specs.Always.{Always}
 use Rattle.words.proofs.word_to_record as word-to-record
-use Rattle.words.proofs.same_element as same-element
+use Rattle.comparisons.proofs.same_element as same-element
+use Rattle.wordlists.proofs.list_to_records as list-to-records
 use Rattle.records.proofs.check_record as check-record
 use Rattle.pairs.proofs.record_to_tree_pair as record-to-tree-pair
 use Rattle.pairs.proofs.record_to_length as record-to-length
@@ -40,6 +42,7 @@ use Rattle.receipts.proofs.serve as serve
 use Rattle.receipts.proofs.finish as finish
 use Rattle.thompson.proofs.thompson_word_to_record as thompson-word-to-record
 use Rattle.thompson.proofs.thompson_same_element as thompson-same-element
+use Rattle.thompson.proofs.thompson_list_to_records as thompson-list-to-records
 use Rattle.thompson.proofs.thompson_check_record as thompson-check-record
 use Rattle.thompson.proofs.thompson_record_to_tree_pair as thompson-record-to-tree-pair
 use Rattle.thompson.proofs.thompson_record_to_length as thompson-record-to-length
@@ -54,6 +57,9 @@ use Rattle.thompson.proofs.thompson_live_entries as thompson-live-entries
 pub record Calls : Type 2 where
   pub word-to-record : Always word-to-record.ended word-to-record.Symbol.routine
       (λ κs u u′ b b′ a a′ e e′ r. Recorded (now u) (memory (now b) (now a) (now e))
+      (memory (now b′) (now a′) (now e′)) r)
+  pub list-to-records : Always list-to-records.ended list-to-records.Symbol.routine
+      (λ κs l l′ b b′ a a′ e e′ r. Listed (now l) (memory (now b) (now a) (now e))
       (memory (now b′) (now a′) (now e′)) r)
   pub check-record : Always check-record.ended check-record.Symbol.routine (λ κs s s′ r. Checked (now s) r)
   pub record-to-tree-pair : Always record-to-tree-pair.ended record-to-tree-pair.Symbol.routine
@@ -93,6 +99,9 @@ pub record Exports : Type 2 where
   pub word-to-record : Always thompson-word-to-record.ended thompson-word-to-record.Symbol.routine
       (λ κs u u′ b b′ a a′ e e′ r. Passed (λ x. codeOf (replyOf x))
       (Recorded (now u) (memory (now b) (now a) (now e)) (memory (now b′) (now a′) (now e′))) r)
+  pub list-to-records : Always thompson-list-to-records.ended thompson-list-to-records.Symbol.routine
+      (λ κs l l′ b b′ a a′ e e′ r. Passed (λ x. codeOf (replyOf x))
+      (Listed (now l) (memory (now b) (now a) (now e)) (memory (now b′) (now a′) (now e′))) r)
   pub check-record : Always thompson-check-record.ended thompson-check-record.Symbol.routine
       (λ κs s s′ r. Passed (λ x. codeOf (verdictOf x)) (Checked (now s)) r)
   pub record-to-tree-pair : Always thompson-record-to-tree-pair.ended thompson-record-to-tree-pair.Symbol.routine

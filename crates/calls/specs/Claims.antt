@@ -2,6 +2,7 @@
 -- is listed here without its proof. A group gives the file of specs/ that says what its claims are; those of `calls`
 -- stand in this crate. A claim that is added anywhere gets its field here. Assumes nothing.
 use Rattle.calls.specs.Demanded.{Demanded, DemandedOfExports, OneRecord}
+use Rattle.calls.specs.DemandedOfLists.{DemandedOfLists}
 use Rattle.calls.specs.DemandedOfRegisters.{DemandedOfRegisters}
 use Rattle.calls.specs.Calls.{Calls, Exports}
 use Rattle.claims.specs.Demands.{Demand1, Demand2, Demand3}
@@ -18,6 +19,7 @@ use Rattle.claims.specs.Lengths.{LengthIsLeast, LetterChangesByOne, SomeLetterL
 use Rattle.claims.specs.Lengths.{NoShorterWord, FewCarets, LabelsGiveLength, NarrowSum}
 use Rattle.claims.specs.Spellings.{DeletingEnds, FormsAreSpelled, SpellingHasLength}
 use Rattle.claims.specs.Texts.{DecimalsAreNumerals, TextsAreTokens, TextsAreLetters}
+use Rattle.claims.specs.Lists.{ListIsCalls, SomeCalls, ListRecordsJoined}
 use Rattle.claims.specs.Registers.{RegistersAreRead, EntersWords, OnlyNewBytes, History, SameEntry, Charges}
 use Rattle.claims.specs.Receipts.{LinesOfBytes, LinesInParts, ServesMetLines, CutKeepsReceipt, ReceiptsOfInput}
 use Rattle.claims.specs.Worked.{Worked, WorkedForms, WorkedRegisters}
@@ -27,6 +29,8 @@ pub record Claims : Type 2 where
   pub demanded : Demanded
   pub demanded-of-exports : DemandedOfExports
   pub one-record : OneRecord
+  -- The same of the list call: calls, DemandedOfLists.
+  pub demanded-of-lists : DemandedOfLists
   -- The same of the register's calls: calls, DemandedOfRegisters.
   pub demanded-of-registers : DemandedOfRegisters
   -- That the contracts of the claims are those of the functions: calls, Calls.
@@ -92,6 +96,10 @@ pub record Claims : Type 2 where
   pub decimals-are-numerals : DecimalsAreNumerals
   pub texts-are-tokens : TextsAreTokens
   pub texts-are-letters : TextsAreLetters
+  -- Many words in one call: claims, Lists.
+  pub list-is-calls : ListIsCalls
+  pub some-calls : SomeCalls
+  pub list-records-joined : ListRecordsJoined
   -- The register of first filings: claims, Registers.
   pub registers-are-read : RegistersAreRead
   pub enters-words : EntersWords

@@ -10,7 +10,7 @@
 -- The names used, what each is, and the crate and file of its specs that define it:
 --     now x                       the elements of the slice behind the reference x                the kit, Denote/Ref
 --     replyOf, verdictOf          an answer as accepted n, or as refused with number and place    refusals, Outcomes
---     decisionOf                  an answer as same, different, or a refusal of word 0 or 1       words, Comparing
+--     decisionOf                  an answer as same, different, or a refusal of word 0 or 1   comparisons, Comparing
 --     outcomeOf, decisionIn       the same of the two numbers that an export answers              thompson, Codes
 --     Refuses o R                 each refusal is o just when its condition R holds               claims, Answers
 --     RefusesWords d R S          the same of two words, the first word's refusals first          claims, Answers
@@ -46,7 +46,7 @@ use Rattle.records.specs.Format.{IsRecord, Within}
 use Rattle.tokens.specs.Tokens.{AllInRange}
 use Rattle.tokens.specs.Texts.{textOf}
 use Rattle.words.specs.Recording.{Memory, memory}
-use Rattle.words.specs.Comparing.{Decision, decisionOf}
+use Rattle.comparisons.specs.Comparing.{Decision, decisionOf}
 use Rattle.thompson.specs.Codes.{outcomeOf, decisionIn}
 use Rattle.claims.specs.Answers.{Refuses, IsRefused, IsAccepted, RefusesWords, WordRefused, Answered, None}
 use Rattle.claims.specs.Refusals.{WordRefusal, RecordRefusal, PairRefusal, SpellingRefusal, TextRefusal, PhraseRefusal}
@@ -54,7 +54,7 @@ use Rattle.claims.specs.Given.{RecordOfWord, PairOfRecord, LengthOfRecord, Word
 use Rattle.claims.specs.Given.{RecordOfText, TextOfRecord}
 use Rattle.calls.specs.Always.{Always}
 use Rattle.words.proofs.word_to_record as word-to-record
-use Rattle.words.proofs.same_element as same-element
+use Rattle.comparisons.proofs.same_element as same-element
 use Rattle.records.proofs.check_record as check-record
 use Rattle.pairs.proofs.record_to_tree_pair as record-to-tree-pair
 use Rattle.pairs.proofs.record_to_length as record-to-length

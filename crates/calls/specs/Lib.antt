@@ -1,6 +1,7 @@
 -- The demands said of the functions, and one theorem of all claims: start with Demanded.
 pub mod Always
 pub mod Demanded
+pub mod DemandedOfLists
 pub mod DemandedOfRegisters
 pub mod Calls
 pub mod Claims

@@ -16,7 +16,7 @@ use Rattle.records.specs.Reading.{decode}
 use Rattle.records.specs.Checking.{Checked}
 use Rattle.lengths.specs.Weights.{formLength}
 use Rattle.words.specs.Recording.{Memory, encodeWord, judgedWith, Recorded}
-use Rattle.words.specs.Comparing.{decisionOf, same, different}
+use Rattle.comparisons.specs.Comparing.{decisionOf, same, different}
 use Rattle.registers.specs.Reading.{readRegister}
 use Rattle.tokens.proofs.Texts.{text-injective}
 use Rattle.thompson.specs.Codes.{readOutcome, outcomeOf}
@@ -41,6 +41,7 @@ use Rattle.claims.proofs.TextCalls.{text-refused, text-call, text-keeps
 use Rattle.claims.proofs.PhraseCalls.{phrase-refused, phrased-as, phrase-gives, phrase-sent, phrase-again}
 use Rattle.claims.proofs.RegisterRefusals.{read↔refusal}
 use Rattle.claims.proofs.EnterCalls.{enter-refused}
+use Rattle.claims.proofs.ListRefusals.{list-refused}
 
 -- Word to record refuses as the word is judged, and then leaves everything.
 word-refused : {u : List ℕ} {m m′ : Memory} {r : Reply} → Recorded u m m′ r
@@ -126,6 +127,7 @@ demand1 = record {
   check-register = λ s r h.
       refuses-when (λ q. 0) (readRegister s) (h .result) (RegisterRefusal s) (read↔refusal s (h .are-bytes));
   enter-word = enter-refused;
+  list-to-records = λ list m m′ r. list-refused;
 }
 
 pub demand2 : Demand2

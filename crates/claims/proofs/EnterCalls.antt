@@ -14,7 +14,7 @@ use Rattle.refusals.proofs.Outcomes.{accepted-same, accepted-refused}
 use Rattle.fields.specs.Fields.{headSize}
 use Rattle.records.specs.Format.{encode}
 use Rattle.words.specs.Recording.{Memory, judgedWith, encodeWord, countRecord, Left, Recorded}
-use Rattle.words.specs.Comparing.{beside}
+use Rattle.words.specs.Recording.{beside}
 use Rattle.registers.specs.Format.{Register, entryBase, registerBytes, liveMost}
 use Rattle.registers.specs.Reading.{live}
 use Rattle.registers.specs.WellFormed.{WellFormed}

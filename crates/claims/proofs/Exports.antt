@@ -7,6 +7,7 @@ use Rattle.claims.specs.Exports.{ExportsAnswerAsCalls}
 pub exports-answer-as-calls : ExportsAnswerAsCalls
 exports-answer-as-calls = record {
   word-to-record = λ u m m′ a h. (h .passed, h .meets, ap outcomeOf (h .numbers) ∙ reply-read (h .passed));
+  list-to-records = λ list m m′ a h. (h .passed, h .meets, ap outcomeOf (h .numbers) ∙ reply-read (h .passed));
   check-record = λ s a h. (h .passed, h .meets, ap outcomeOf (h .numbers) ∙ verdict-read (h .passed));
   record-to-tree-pair =
       λ s p q p′ q′ a h. (h .passed, h .meets, ap outcomeOf (h .numbers) ∙ reply-read (h .passed));

@@ -15,6 +15,8 @@ pub mod NewEntries
 pub mod RegisterRefusals
 pub mod Filings
 pub mod EnterCalls
+pub mod ListRefusals
+pub mod LineCalls
 pub mod Demands
 pub mod Exports
 pub mod Forms
@@ -24,5 +26,6 @@ pub mod Spellings
 pub mod Texts
 pub mod Receipts
 pub mod Registers
+pub mod Lists
 pub mod Sentences
 pub mod Worked

@@ -1,5 +1,6 @@
 -- What is refused of a text and of what is lent with it, by the literal conditions of specs/Refusals.antt.
 --     Room m ps         powers beside the memory, in each of the cases
+--     short-or-not      the tables beside the limit, for lists too
 --     text↔refusal      the outcome of a text is a refusal just under its condition
 -- Assumes nothing.
 use mathlib.Core.Path.{_≡_, refl, sym, ap, ap₂, subst, _∙_}
@@ -82,6 +83,30 @@ module _ {t : List ℕ} (ps : List SignedPower) (text : t ≡ textOf ps) where
     short-record : (m : Memory) → length (m .buffer) < bufferSize (exponentSizes ps) → ShortRecord t m
     short-record m h = record { powers = ps; in-range = range; text = text; short = h }
 
+-- A table has fewer entries than the limit and one, or none has.
+pub short-or-not : (m : Memory) → ShortTables m ⊎ (ShortTables m → ⊥)
+short-or-not m = go (decLt (length (m .b)) (suc limit)) (decLt (length (m .a)) (suc limit))
+  where
+    go : Dec (length (m .b) < suc limit) → Dec (length (m .a) < suc limit) → ShortTables m ⊎ (ShortTables m → ⊥)
+    go (yes b) a = inl (inl b)
+    go (no b) (yes a) = inl (inr a)
+    go (no b) (no a) = inr neither
+      where
+        neither : ShortTables m → ⊥
+        neither (inl x) = b x
+        neither (inr x) = a x
+
+at-least : (k : ℕ) → (k < suc limit → ⊥) → suc limit ≤ k
+at-least k n = omega (arith, n)
+
+-- Each has the limit's entries and one, where none is short.
+module _ (m : Memory) (full : ShortTables m → ⊥) where
+  pub b-full : suc limit ≤ length (m .b)
+  b-full = at-least (length (m .b)) (λ h. full (inl h))
+
+  pub a-full : suc limit ≤ length (m .a)
+  a-full = at-least (length (m .a)) (λ h. full (inr h))
+
 -- Powers beside the memory.
 module _ (m : Memory) (ps : List SignedPower) where
   -- What is found of them.
@@ -109,24 +134,12 @@ module _ (m : Memory) (ps : List SignedPower) where
             )
 
     module _ (full : ShortTables m → ⊥) where
-      b-full : suc limit ≤ length (m .b)
-      b-full = at-least (λ h. full (inl h))
-        where
-          at-least : (length (m .b) < suc limit → ⊥) → suc limit ≤ length (m .b)
-          at-least n = omega (arith, n)
-
-      a-full : suc limit ≤ length (m .a)
-      a-full = at-least (λ h. full (inr h))
-        where
-          at-least : (length (m .a) < suc limit → ⊥) → suc limit ≤ length (m .a)
-          at-least n = omega (arith, n)
-
       room-buffer : length (m .buffer) < bufferSize (exponentSizes ps) → room ≡ refused 7 0
       room-buffer h =
           simp (
             le-ltb (suc limit) (levels (productForm ps)) low,
-            le-ltb (length (m .b)) (suc limit) b-full,
-            le-ltb (length (m .a)) (suc limit) a-full,
+            le-ltb (length (m .b)) (suc limit) (b-full m full),
+            le-ltb (length (m .a)) (suc limit) (a-full m full),
             lt-ltb (length (m .buffer)) (bufferSize (exponentSizes ps)) h,
           )
 
@@ -134,8 +147,8 @@ module _ (m : Memory) (ps : List SignedPower) where
       room-fine h =
           simp (
             le-ltb (suc limit) (levels (productForm ps)) low,
-            le-ltb (length (m .b)) (suc limit) b-full,
-            le-ltb (length (m .a)) (suc limit) a-full,
+            le-ltb (length (m .b)) (suc limit) (b-full m full),
+            le-ltb (length (m .a)) (suc limit) (a-full m full),
             le-ltb (length (m .buffer)) (bufferSize (exponentSizes ps)) h,
           )
 
@@ -151,16 +164,6 @@ pub data Room (m : Memory) (ps : List SignedPower) : Type 0 where
 pub judge-room : (m : Memory) (ps : List SignedPower) → Room m ps
 judge-room m ps = index (decLt (suc limit) (levels (productForm ps)))
   where
-    short-or-not : Dec (length (m .b) < suc limit) → Dec (length (m .a) < suc limit)
-        → ShortTables m ⊎ (ShortTables m → ⊥)
-    short-or-not (yes b) a = inl (inl b)
-    short-or-not (no b) (yes a) = inl (inr a)
-    short-or-not (no b) (no a) = inr neither
-      where
-        neither : ShortTables m → ⊥
-        neither (inl x) = b x
-        neither (inr x) = a x
-
     buffer : (low : levels (productForm ps) ≤ suc limit) (full : ShortTables m → ⊥)
         → Dec (length (m .buffer) < bufferSize (exponentSizes ps)) → Room m ps
     buffer low full (yes h) = noBuffer low full h (room-buffer m ps low full h)
@@ -174,9 +177,7 @@ judge-room m ps = index (decLt (suc limit) (levels (productForm ps)))
 
     index : Dec (suc limit < levels (productForm ps)) → Room m ps
     index (yes h) = isHigh h (room-high m ps h)
-    index (no h) =
-        tables (omega (arith, h))
-        (short-or-not (decLt (length (m .b)) (suc limit)) (decLt (length (m .a)) (suc limit)))
+    index (no h) = tables (omega (arith, h)) (short-or-not m)
 
 -- The outcome of a text is a refusal just under its condition.
 module _ (t : List ℕ) (m : Memory) (n p : ℕ) where

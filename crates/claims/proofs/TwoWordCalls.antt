@@ -13,10 +13,10 @@ use Rattle.refusals.specs.Outcomes.{Outcome, accepted, refused}
 use Rattle.refusals.specs.declared.Reply.{Reply}
 use Rattle.refusals.specs.declared.Reply.the-variants.{Number}
 use Rattle.words.specs.Recording.{Memory, judgedWith, encodeWord, countRecord, Left, Recorded}
-use Rattle.words.specs.Comparing.{Decision, same, different, refusedWord, decided, decisionOf}
+use Rattle.comparisons.specs.Comparing.{Decision, same, different, refusedWord, decided, decisionOf}
 use Rattle.lists.specs.SameBytes.{sameBytes}
-use Rattle.words.specs.Comparing.{ComparedBy, Compared}
-use Rattle.words.specs.declared.Comparison.{Comparison}
+use Rattle.comparisons.specs.Comparing.{ComparedBy, Compared}
+use Rattle.comparisons.specs.declared.Comparison.{Comparison}
 use Rattle.lists.proofs.SameBytes.{same-bytes, bytes-same}
 use Rattle.claims.specs.Refusals.{WordRefusal}
 use Rattle.claims.specs.Answers.{None, WordRefused, Answered, RefusesWords}

@@ -23,7 +23,7 @@ use Rattle.forest.specs.Filling.{tableAfter}
 use Rattle.words.specs.Recording.{Memory, memory, judgedWith, encodeWord, countRecord, bufferAfter, Left, Recorded}
 use Rattle.words.specs.inside.Writing.{WordWritten}
 use Rattle.words.proofs.Judged.{accepted-record}
-use Rattle.words.proofs.Compared.{front-record}
+use Rattle.words.proofs.Written.{front-record}
 use Rattle.claims.specs.Given.{RecordOfWord}
 use Rattle.claims.proofs.Written.{record-written, Listed, listed↔joined, listed-form}
 use Rattle.claims.proofs.Refusals.{Judged, refuses, accepts, judge-word, judged-accepted}

@@ -11,7 +11,7 @@ use mathlib.Core.Path.{_≡_}
 use mathlib.Core.Logic.{_⊎_, _↔_}
 use Prim.Native.Nat.{ℕ}
 use Rattle.refusals.specs.Outcomes.{Outcome, accepted, refused}
-use Rattle.words.specs.Comparing.{Decision, same, different, refusedWord}
+use Rattle.comparisons.specs.Comparing.{Decision, same, different, refusedWord}
 
 -- No refusal's condition holds.
 abbrev pub None : (ℕ → ℕ → Type 0) → Type 0

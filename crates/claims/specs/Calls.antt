@@ -20,8 +20,8 @@ use Rattle.group.specs.Powers.{SignedPower, productLetters}
 use Rattle.refusals.specs.Outcomes.{accepted, replyOf}
 use Rattle.refusals.specs.declared.Reply.{Reply}
 use Rattle.words.specs.Recording.{Memory, Recorded}
-use Rattle.words.specs.Comparing.{Compared, decisionOf}
-use Rattle.words.specs.declared.Comparison.{Comparison}
+use Rattle.comparisons.specs.Comparing.{Compared, decisionOf}
+use Rattle.comparisons.specs.declared.Comparison.{Comparison}
 use Rattle.pairs.specs.Contracts.{Paired, Measured}
 use Rattle.spelling.specs.Contracts.{Spelled}
 use Rattle.tokens.specs.Texts.{textOf}

@@ -1,31 +1,32 @@
--- Demands 1, 2 and 3 on the ten calls, over the calls' contracts; proofs/Demands.antt has the proofs. The demands as
+-- Demands 1, 2 and 3 on the eleven calls, over the calls' contracts; proofs/Demands.antt has the proofs. The demands as
 -- they were set are quoted in docs/DECISIONS.md. crates/calls/specs/Demanded.antt says the same of the functions, with
 -- no contract in it.
 -- What need not be believed: contracts (the first group below) stand left of the arrows only. Each function is proved
 -- to meet its contract (crate `calls`), so a reader has to believe what stands on the right, and the order in which a
 -- function's `ensures` hands its arguments to the contract. The demands bind the six calls of 01 and the two of 02,
--- [1], their exports too; demand 1 binds the two of 02, [3], as well, and specs/Registers.antt says what those give.
--- `Unfit`, which functions inside may answer, is met by none of them.
+-- [1], their exports too; demand 1 binds the two of 02, [3], and that of 02, [4], as well, and specs/Registers.antt and
+-- specs/Lists.antt say what those give. `Unfit`, which functions inside may answer, is met by none of them.
 -- Letters: u, v bytes lent as a word; w, x words; s bytes lent as a record or as a register; h a holder; m, k memory
--- lent with a word or a text; p, q buffers for shapes; t bytes lent as a text, or a buffer for letters; ps powers; f, g
--- a form or a call; a ′ marks the same memory at exit.
+-- lent with a word, a text or a list; p, q buffers for shapes; t bytes lent as a text, or a buffer for letters; ps
+-- powers; f, g a form or a call; a ′ marks the same memory at exit.
 -- Contracts, and the crate and file that define each:
 --     Recorded u m m′ r           word_to_record                                                  words, Recording
 --     Checked s r                 check_record                                                    records, Checking
 --     Paired s p q p′ q′ r        record_to_tree_pair                                             pairs, Contracts
 --     Measured s r                record_to_length                                                pairs, Contracts
 --     Spelled s t t′ r            record_to_word                                                  spelling, Contracts
---     Compared u m m′ v k k′ r    same_element                                                    words, Comparing
+--     Compared u m m′ v k k′ r    same_element                                              comparisons, Comparing
 --     TextRecorded t m m′ r       text_to_record                                                  notation, Contracts
 --     TextWritten s t t′ r        record_to_text                                                  notation, Contracts
 --     RegisterChecked s r         check_register                                                  registers, Answers
 --     EnteredWord u m m′ h s s′ r enter_word, holder h                                            updates, Entering
+--     Listed list m m′ r          list_to_records, lent `list` with a word a line                 wordlists, Listing
 -- Calls and answers:
 --     WordCall w, TextCall ps     an accepted call on the bytes of w, on the text of powers ps    claims, Calls
 --     CallOn w, recordBy f        one of both, on the word w; the record that it wrote            claims, Calls
 --     SpellingCall, PhraseCall, PairCall, LengthCall s, TwoWordCall u v, ExportedCall w           claims, Calls
 --     Reply, Verdict              answer types; replyOf, verdictOf: their outcomes                refusals, Outcomes
---     Comparison, decisionOf      the answer on two words; same, different, or a refused word     words, Comparing
+--     Comparison, decisionOf      the answer on two words; same, different, or a refused word   comparisons, Comparing
 --     Entered, numberOfEntered    the answer on a filing; its outcome, with the entry's number    updates, Entering
 -- On the right sides:
 --     Refuses o R                 each refusal is the outcome o just when R holds of it           claims, Answers
@@ -35,6 +36,7 @@
 --     TextRefusal, PhraseRefusal  the same of a text; of a record that is to be written as text   claims, Refusals
 --     RegisterRefusal s           12: the bytes are no register                                   claims, Registers
 --     EnterRefusal u m h s        a word's own, then 12, then, unless it is filed, 13 and 14      claims, Registers
+--     ListRefusal list m          of tables and output lent with a list: 6, then 7                claims, Lists
 --     NoWordRefusal u m           none of 1, 2, 6 and 7 holds: the word is accepted               claims, Refusals
 --     ShortTable, ShortBuffer u m the condition of 6, of 7                                        claims, Refusals
 --     NoTextRefusal, ShortTables, ShortRecord    the same of texts: 9, 10, 11, 6 and 7            claims, Refusals
@@ -67,8 +69,9 @@ use Rattle.tokens.specs.Tokens.{AllInRange}
 use Rattle.tokens.specs.Texts.{textOf}
 use Rattle.notation.specs.Contracts.{TextRecorded, TextWritten}
 use Rattle.words.specs.Recording.{Memory, Recorded}
-use Rattle.words.specs.Comparing.{Compared, decisionOf, same, different}
-use Rattle.words.specs.declared.Comparison.{Comparison}
+use Rattle.comparisons.specs.Comparing.{Compared, decisionOf, same, different}
+use Rattle.comparisons.specs.declared.Comparison.{Comparison}
+use Rattle.wordlists.specs.Listing.{Listed}
 use Rattle.registers.specs.Answers.{RegisterChecked}
 use Rattle.updates.specs.Entering.{numberOfEntered, EnteredWord}
 use Rattle.updates.specs.declared.Entered.{Entered}
@@ -82,10 +85,11 @@ use Rattle.claims.specs.Calls.{ExportedCall, exportedRecord}
 use Rattle.claims.specs.Given.{RecordOfWord, PairOfRecord, LengthOfRecord, WordOfRecord}
 use Rattle.claims.specs.Given.{RecordOfText, TextOfRecord}
 use Rattle.claims.specs.Registers.{RegisterRefusal, EnterRefusal}
+use Rattle.claims.specs.Lists.{ListRefusal}
 
 -- Demand 1: each refusal is given under its condition and at no other time, and alters nothing that was lent. A word is
 -- accepted when no condition of 1, 2, 6 or 7 holds, a text when none of 9, 10, 11, 6 or 7 does, and the check accepts
--- just the records of forms. A register is checked and a word filed by the same sentence.
+-- just the records of forms. A register is checked, a word filed and a list taken by the same sentence.
 pub record Demand1 : Type 0 where
   pub word-to-record : (u : List ℕ) (m m′ : Memory) (r : Reply) → Recorded u m m′ r
       → Refuses (replyOf r) (WordRefusal u m) × (IsRefused (replyOf r) → m′ ≡ m)
@@ -111,6 +115,8 @@ pub record Demand1 : Type 0 where
   pub enter-word : (u : List ℕ) (m m′ : Memory) (h : ℕ) (s s′ : List ℕ) (r : Entered) → EnteredWord u m m′ h s s′ r
       → Refuses (numberOfEntered r) (EnterRefusal u m h s)
       × (IsRefused (numberOfEntered r) → (m′ ≡ m) × (s′ ≡ s))
+  pub list-to-records : (list : List ℕ) (m m′ : Memory) (r : Reply) → Listed list m m′ r
+      → Refuses (replyOf r) (ListRefusal list m) × (IsRefused (replyOf r) → m′ ≡ m)
 
 -- Demand 2: the bytes of an accepted word are those of one word, and its record has that word's map. A record gives the
 -- tree pair, the length and the spelling of its form. The spelling is joined to every word with that record, and is

@@ -17,8 +17,9 @@ use Rattle.pairs.specs.Contracts.{Paired, Measured}
 use Rattle.spelling.specs.Contracts.{Spelled}
 use Rattle.notation.specs.Contracts.{TextRecorded, TextWritten}
 use Rattle.words.specs.Recording.{Memory, Recorded}
-use Rattle.words.specs.Comparing.{Compared, decisionOf}
-use Rattle.words.specs.declared.Comparison.{Comparison}
+use Rattle.comparisons.specs.Comparing.{Compared, decisionOf}
+use Rattle.comparisons.specs.declared.Comparison.{Comparison}
+use Rattle.wordlists.specs.Listing.{Listed}
 use Rattle.registers.specs.Answers.{RegisterChecked}
 use Rattle.updates.specs.Accounts.{AccountRead}
 use Rattle.updates.specs.Entering.{enteredOf, repliedOf, EnteredWord}
@@ -34,6 +35,9 @@ pub record ExportsAnswerAsCalls : Type 0 where
   pub word-to-record : (u : List ℕ) (m m′ : Memory) (a : Answer)
       → Passed (λ r. codeOf (replyOf r)) (Recorded u m m′) a
       → (r : Reply) × Recorded u m m′ r × (outcomeOf a ≡ replyOf r)
+  pub list-to-records : (list : List ℕ) (m m′ : Memory) (a : Answer)
+      → Passed (λ r. codeOf (replyOf r)) (Listed list m m′) a
+      → (r : Reply) × Listed list m m′ r × (outcomeOf a ≡ replyOf r)
   pub check-record : (s : List ℕ) (a : Answer) → Passed (λ r. codeOf (verdictOf r)) (Checked s) a
       → (r : Verdict) × Checked s r × (outcomeOf a ≡ verdictOf r)
   pub record-to-tree-pair : (s p q p′ q′ : List ℕ) (a : Answer)

@@ -48,7 +48,7 @@ use Rattle.lengths.specs.Kinds.{Kind, IsKind}
 use Rattle.lengths.specs.Weights.{weights}
 use Rattle.spelling.specs.Spelling.{Spells}
 use Rattle.words.specs.Recording.{Memory}
-use Rattle.words.specs.Comparing.{Decision, same, different}
+use Rattle.comparisons.specs.Comparing.{Decision, same, different}
 
 -- The n bytes at the front of the buffer are the record of a reduced form with the word's map, and the first k entries
 -- of the tables are that form's exponents; everything beyond is unchanged.

@@ -13,5 +13,6 @@ pub mod Spellings
 pub mod Texts
 pub mod Receipts
 pub mod Registers
+pub mod Lists
 pub mod Sentences
 pub mod Worked

@@ -131,7 +131,7 @@ pub record HighForm (t : List ℕ) : Type 0 where
   pub high : limit < index
   pub occurs : 0 < exponent side form index
 
--- 6 for texts: a table with fewer entries than the limit and one.
+-- 6 for texts and for lists: a table with fewer entries than the limit and one.
 abbrev pub ShortTables : Memory → Type 0
 ShortTables m = (length (m .b) < limit + 1) ⊎ (length (m .a) < limit + 1)
 

@@ -37,7 +37,7 @@ use Rattle.forest.proofs.Fitting.{powers-ready}
 
 -- What the read-off leaves shows the form.
 module _ {lefts rights stack b a stack′ b′ a′ : List ℕ} {low read height : ℕ}
-    (t : TablesRead lefts rights stack low b a (suc limit) stack′ b′ a′ read height)
+    (t : TablesRead limit lefts rights stack low b a (suc limit) stack′ b′ a′ read height)
     (ps : List SignedPower) (w : IndicesWithin limit ps) where
   -- The bushes of the powers' row.
   abbrev row : List Bush
@@ -52,7 +52,7 @@ module _ {lefts rights stack b a stack′ b′ a′ : List ℕ} {low read height
       ∙ sym (cursor-exponent limit ps w s i)
 
   -- Both, and what the height tells.
-  pub tips-shown : StackStands lefts rights cells row stack low → Shown ps read height b′ a′
+  pub tips-shown : StackStands limit lefts rights cells row stack low → Shown ps read height b′ a′
   tips-shown on =
       let taken = t .takes row on in
       record {
@@ -154,8 +154,8 @@ pub pile-ready : {ks es ss lefts′ rights′ stack′ : List ℕ} {height : ℕ
     → length stack′ ≡ length stack → PowersPiled ks es ss lefts′ rights′ stack′ height
     → PileReady lefts′ rights′ stack′ height
 pile-ready {ks} {es} {ss} lefts rights before stack a l r s p = record {
-  lefts-length = l ∙ a .lefts-length;
-  rights-length = r ∙ a .rights-length;
+  lefts-length = omega (arith, l, a .lefts-length);
+  rights-length = omega (arith, r, a .rights-length);
   bushes = powerBushes ks es ss;
   stack-stands = p .stack-stands;
   few = omega (arith, p .few, s, a .stack-length);

@@ -8,6 +8,7 @@ use native.Mathlib.Omega.{arith}
 use native.Mathlib.Decide.{decLe}
 use Rattle.group.specs.Forms.{Side, bSide, aSide, Form, levels}
 use Rattle.group.specs.Products.{formOf}
+use Rattle.group.specs.Limits.{limit}
 use Rattle.group.specs.Powers.{SignedPower, signedPower, productLetters}
 use Rattle.group.proofs.Reduced.{form-trimmed}
 use Rattle.group.proofs.Sizes.{exponent-behind, trimmed-levels}
@@ -161,12 +162,12 @@ module _ (m : ℕ) (ps : List SignedPower) (w : IndicesWithin m ps) (n : ℕ) wh
 
   -- The stack holds the bushes behind the first n tips of the row: it is empty where no index from n on occurs.
   pub low-levels : (lefts rights : List ℕ) (used : ℕ) (stack : List ℕ) (height : ℕ)
-      → StackStands lefts rights used (bushesFrom n row) stack height → height ≡ 0 → levels form ≤ n
+      → StackStands limit lefts rights used (bushesFrom n row) stack height → height ≡ 0 → levels form ≤ n
   low-levels lefts rights used stack height s e =
-      none-levels (stack-none lefts rights used (bushesFrom n row) stack height e s)
+      none-levels (stack-none limit lefts rights used (bushesFrom n row) stack height e s)
 
   pub high-levels : (lefts rights : List ℕ) (used : ℕ) (stack : List ℕ) (height : ℕ)
-      → StackStands lefts rights used (bushesFrom n row) stack height → (height ≡ 0 → ⊥) → n < levels form
+      → StackStands limit lefts rights used (bushesFrom n row) stack height → (height ≡ 0 → ⊥) → n < levels form
   high-levels lefts rights used stack height s some =
       some-levels (bushesFrom n row) refl (from-last n row (bushes-last (cursorOf ps) (cursor-last ps)))
-      (λ e. some (subst (λ (us : List Bush). StackStands lefts rights used us stack height) e s))
+      (λ e. some (subst (λ (us : List Bush). StackStands limit lefts rights used us stack height) e s))

@@ -25,6 +25,7 @@ pub mod Descent
 pub mod Zeroing
 pub mod Reading
 -- the tables at exit
+pub mod WordFits
 pub mod RowTips
 pub mod Filled
 -- the same of powers: what is tested, and the own tables handed over

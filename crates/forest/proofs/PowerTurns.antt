@@ -19,22 +19,22 @@ use Rattle.forest.proofs.Seeking.{popped-low}
 
 -- The bush in hand joined with the next, and parted.
 pub joined-turn : {lefts rights stack : List ℕ} {hand : Hand} {q h : ℕ} {lefts′ rights′ : List ℕ} {used bush : ℕ}
-    → Popped stack (hand .height) q h → Made lefts rights (hand .used) (hand .bush) q lefts′ rights′ used bush
+    → Popped stack (hand .height) q h → Made limit lefts rights (hand .used) (hand .bush) q lefts′ rights′ used bush
     → Turned bSide lefts rights stack hand lefts′ rights′ stack (record { used = used; height = h; bush = bush })
 joined-turn {lefts} {rights} {stack} {hand} {q} {h} {lefts′} {rights′} {used} p m = record {
   low = m .low;
   high = m .high;
   keeps = m .keeps;
   turns = λ t ts r x y.
-      let o = p lefts rights (hand .used) ts y in (
+      let o = p limit lefts rights (hand .used) ts y in (
         m .makes t (firstBush ts) x (o .0),
-        stack-keeps lefts rights lefts′ rights′ (hand .used) used (m .keeps) (laterBushes ts) stack h (o .1),
+        stack-keeps limit lefts rights lefts′ rights′ (hand .used) used (m .keeps) (laterBushes ts) stack h (o .1),
         omega (arith, popped-low lefts rights (hand .used) ts p y),
       );
 }
 
 pub parted-turn : {lefts rights stack : List ℕ} {hand : Hand} {left right : ℕ} {stack′ : List ℕ} {h : ℕ}
-    → Parted lefts rights (hand .bush) left right → Pushed stack (hand .height) right stack′ h
+    → Parted limit lefts rights (hand .bush) left right → Pushed stack (hand .height) right stack′ h
     → Turned aSide lefts rights stack hand lefts rights stack′ (record { used = hand .used; height = h; bush = left })
 parted-turn {lefts} {rights} {stack} {hand} q p = record {
   low = omega arith;
@@ -42,7 +42,7 @@ parted-turn {lefts} {rights} {stack} {hand} q p = record {
   keeps = λ x code s. s;
   turns = λ t ts z x y.
       let o = q (hand .used) t (z .0) x in
-      (o .0, p .puts lefts rights (hand .used) (rightPart t) ts (o .1) y, p .high);
+      (o .0, p .puts limit lefts rights (hand .used) (rightPart t) ts (o .1) y, p .high);
 }
 
 -- The side that a turn goes by.
@@ -72,8 +72,8 @@ pub record Rest (s : Side) (lefts rights stack : List ℕ) (hand : Hand) (whole 
   pub bush : Bush
   pub us : List Bush
   pub raises : Raises s left bush
-  pub stands : Stands lefts rights (hand .used) bush (hand .bush)
-  pub behind : StackStands lefts rights (hand .used) us stack (hand .height)
+  pub stands : Stands limit lefts rights (hand .used) bush (hand .bush)
+  pub behind : StackStands limit lefts rights (hand .used) us stack (hand .height)
   pub same : powerFrom s left bush us ≡ whole
 
 -- Amid a power.
@@ -86,8 +86,9 @@ pub record Turning (s : Side) (lefts₀ rights₀ stack₀ : List ℕ) (used hei
   pub low : used ≤ hand .used
   pub high : hand .used + left ≤ used + e
   pub deep : hand .height + left ≤ height + e
-  pub keeps : (x : Bush) (code : ℕ) → Stands lefts₀ rights₀ used x code → Stands lefts rights (hand .used) x code
-  pub rest : (ts : List Bush) → Raises s e (firstBush ts) → StackStands lefts₀ rights₀ used ts stack₀ height
+  pub keeps : (x : Bush) (code : ℕ) → Stands limit lefts₀ rights₀ used x code
+      → Stands limit lefts rights (hand .used) x code
+  pub rest : (ts : List Bush) → Raises s e (firstBush ts) → StackStands limit lefts₀ rights₀ used ts stack₀ height
       → Rest s lefts rights stack hand (powerOn s e ts) left
 
 pub turning-starts : {s : Side} {lefts rights stack : List ℕ} {used height e t h : ℕ}
@@ -103,7 +104,7 @@ turning-starts {s} {lefts} {rights} {stack} {used} {height} {e} {t} {h} a p = re
   deep = omega (arith, popped-low lefts rights used (a .ts) p (a .stood));
   keeps = λ x code z. z;
   rest = λ ts r z.
-      let q = p lefts rights used ts z in
+      let q = p limit lefts rights used ts z in
       record {
         bush = firstBush ts;
         us = laterBushes ts;
@@ -135,8 +136,11 @@ module _ {s : Side} {lefts₀ rights₀ stack₀ : List ℕ} {used height e : �
         used-high = used-high;
         height-high = turning-height;
         bush-high =
-            omega
-            (arith, stands-below lefts rights (hand .used) (now .bush) (hand .bush) used-low (now .stands), used-high);
+            omega (
+              arith,
+              stands-below limit lefts rights (hand .used) (now .bush) (hand .bush) used-low (now .stands),
+              used-high,
+            );
       }
 
   pub turning-more : (n : ℕ) → left ≡ n + 1 → {lefts′ rights′ stack′ : List ℕ} {hand′ : Hand}
@@ -181,7 +185,7 @@ module _ {s : Side} {lefts₀ rights₀ stack₀ : List ℕ} {used height e : �
     keeps = g .keeps;
     puts = λ ts r z.
         let v = g .rest ts r z in
-        subst (λ (us : List Bush). StackStands lefts rights (hand .used) us stack′ top)
+        subst (λ (us : List Bush). StackStands limit lefts rights (hand .used) us stack′ top)
         (ap (λ (i : ℕ). powerFrom s i (v .bush) (v .us)) (sym d) ∙ v .same)
-        (p .puts lefts rights (hand .used) (v .bush) (v .us) (v .stands) (v .behind));
+        (p .puts limit lefts rights (hand .used) (v .bush) (v .us) (v .stands) (v .behind));
   }

@@ -21,10 +21,11 @@ use Rattle.forest.proofs.ReadOff.{row-exponent}
 use Rattle.forest.proofs.Running.{step-length}
 
 -- What the read-off asks: the row has at most two tips more than the word has letters.
-pub row-ready : {word lefts rights stack b a : List ℕ} {height : ℕ} → Piled word lefts rights stack height
+pub row-ready : {last : ℕ} {word lefts rights stack b a : List ℕ} {height : ℕ}
+    → Piled last word lefts rights stack height
     → length word + 1 ≤ length b → length word + 1 ≤ length a
-    → TipsReady lefts rights stack height b a (length word + 1)
-row-ready {word} p f g =
+    → TipsReady last lefts rights stack height b a (length word + 1)
+row-ready {last} {word} p f g =
     let w = stepWord word in
     record {
       lefts-length = p .scratch .lefts-length;

@@ -29,7 +29,7 @@ raises-small : (s : Side) (n e : ℕ) (t : Bush) → e + n ≤ limit → Irreduc
 raises-small bSide n e t l h = tt
 raises-small aSide n zero t l h = tt
 raises-small aSide n (suc e) t l h = (
-  bush-raisable n t (omega arith) h,
+  bush-raisable limit n t (omega arith) h,
   raises-small aSide (suc n) e (leftPart t) (omega arith) (left-irreducible n t h),
 )
 
@@ -62,8 +62,8 @@ module _ (lefts rights : List ℕ) (used : ℕ) (before stack : List ℕ) (front
     omega (arith, stood-place lefts rights used before stack front height (cursor ls ts) o, b .low),
     omega (
       arith,
-      stack-height lefts rights used ls before front (o .0),
-      stack-height lefts rights used ts stack height (o .1),
+      stack-height limit lefts rights used ls before front (o .0),
+      stack-height limit lefts rights used ts stack height (o .1),
       b .few,
     ),
   )
@@ -102,7 +102,7 @@ module _ (lefts rights : List ℕ) (used : ℕ) (before stack : List ℕ) (front
       → Stood lefts rights used before stack front height c
       → Stood lefts′ rights′ used′ before stack′ front height′ (powerHere s e c)
   power-stood s e (cursor ls ts) lefts′ rights′ stack′ used′ height′ he b p o = (
-    stack-keeps lefts rights lefts′ rights′ used used′ (p .keeps) ls before front (o .0),
+    stack-keeps limit lefts rights lefts′ rights′ used used′ (p .keeps) ls before front (o .0),
     p .puts ts (raises-small s n e (firstBush ts) he (first-irreducible n ts (b .from-here))) (o .1),
   )
 
@@ -124,9 +124,9 @@ module _ {ks es ss lefts rights before stack : List ℕ} {used front height i : 
       → PowersPiled ks es ss lefts rights stack′ height′
   powers-end d {stack′} {height′} q = record {
     stack-stands =
-        subst (λ (j : ℕ). StackStands lefts rights cells (cursorBushes (cursorFrom ks es ss j)) stack′ height′)
+        subst (λ (j : ℕ). StackStands limit lefts rights cells (cursorBushes (cursorFrom ks es ss j)) stack′ height′)
         d
-        (stack-more lefts rights used cells (cursorBushes (cursorFrom ks es ss i)) stack′ height′
+        (stack-more limit lefts rights used cells (cursorBushes (cursorFrom ks es ss i)) stack′ height′
         (omega (arith, r .used-high, few .sizes))
         (subst (Stood lefts rights used before stack′ 0 height′) (seek-first (cursorFrom ks es ss i))
         (q lefts rights used (cursorFrom ks es ss i) (r .stood))

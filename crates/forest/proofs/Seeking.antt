@@ -4,6 +4,7 @@ use mathlib.Core.List.{List, [], _∷_}
 use Prim.Native.Nat.{ℕ, zero, suc, _+_, _-_, _≤_, _<_}
 use native.Mathlib.Omega.{arith}
 use lib.ListN.{getD, set, length, length-set}
+use Rattle.group.specs.Limits.{limit}
 use Rattle.forest.specs.inside.Forest.{Bush, firstBush, laterBushes}
 use Rattle.forest.specs.inside.Cells.{Stands, StackStands, Popped, Pushed}
 use Rattle.forest.specs.inside.Cursor.{Cursor, cursor, place, onward, backward, seek}
@@ -19,7 +20,7 @@ later-length (t ∷ ts) = omega arith
 
 module _ (lefts rights : List ℕ) (used : ℕ) where
   -- The height of a stack is the number of its bushes, and the front's height the cursor's place.
-  stack-length : (ts : List Bush) (stack : List ℕ) (height : ℕ) → StackStands lefts rights used ts stack height
+  stack-length : (ts : List Bush) (stack : List ℕ) (height : ℕ) → StackStands limit lefts rights used ts stack height
       → height ≡ length ts
   stack-length [] stack height s = s
   stack-length (t ∷ ts) stack height (top, e, h, s) = omega (arith, stack-length ts stack top s)
@@ -30,12 +31,12 @@ module _ (lefts rights : List ℕ) (used : ℕ) where
 
   -- No bush comes to the stack when one is taken.
   pub popped-low : {stack : List ℕ} {height bush height′ : ℕ} (ts : List Bush) → Popped stack height bush height′
-      → StackStands lefts rights used ts stack height → height′ ≤ height
+      → StackStands limit lefts rights used ts stack height → height′ ≤ height
   popped-low {stack} {height} {bush} {height′} ts p s =
       omega (
         arith,
         stack-length ts stack height s,
-        stack-length (laterBushes ts) stack height′ (p lefts rights used ts s .1),
+        stack-length (laterBushes ts) stack height′ (p limit lefts rights used ts s .1),
         later-length ts,
       )
 
@@ -44,8 +45,8 @@ module _ (lefts rights : List ℕ) (used : ℕ) where
       → Popped stack h bush h′ → Stood lefts rights used before stack i h c
       → Stood lefts rights used (set before i bush) stack (i + 1) h′ (onward c)
   stood-onward before stack i h bush h′ (cursor ls ts) l p (s, t) =
-      let q = p lefts rights used ts t in
-      (stack-push lefts rights used (firstBush ts) ls before i bush l (q .0) s, q .1)
+      let q = p limit lefts rights used ts t in
+      (stack-push limit lefts rights used (firstBush ts) ls before i bush l (q .0) s, q .1)
 
   stood-backward : (before stack : List ℕ) (i j h : ℕ) (stack′ : List ℕ) (h′ : ℕ) (c : Cursor) → i ≡ j + 1
       → Pushed stack h (getD before j 0) stack′ h′ → Stood lefts rights used before stack i h c
@@ -53,8 +54,9 @@ module _ (lefts rights : List ℕ) (used : ℕ) where
   stood-backward before stack i j h stack′ h′ (cursor [] ts) d p (s, t) = absurd (omega (arith, s))
   stood-backward before stack i j h stack′ h′ (cursor (u ∷ ls) ts) d p ((top, e, w, s), t) =
       let g : top ≡ j = omega (arith, e) in (
-        subst (StackStands lefts rights used ls before) g s,
-        p .puts lefts rights used u ts (subst (λ (n : ℕ). Stands lefts rights used u (getD before n 0)) g w) t,
+        subst (StackStands limit lefts rights used ls before) g s,
+        p .puts limit lefts rights used u ts
+            (subst (λ (n : ℕ). Stands limit lefts rights used u (getD before n 0)) g w) t,
       )
 
 -- Amid a move, at place i.

@@ -1,15 +1,16 @@
-// Bushes kept in cells, and the stack of bushes. A bush is a code: up to LIMIT a tip with that exponent, above it a
+// Bushes kept in cells, and the stack of bushes. A bush is a code: up to `last` a tip with that exponent, above it a
 // cell that holds the codes of its two parts, the left one in `lefts`, the right one in `rights`. A cell is written
-// once.
+// once. For a word `last` is its number of letters, so that a short word touches short scratch; for powers it is the
+// limit.
 ghost use mathlib.Core.Path.{_≡_};
 ghost use Prim.Native.Nat.{_≤_, _<_};
 ghost use lib.ListN.{length};
 ghost use Rattle.group.specs.Limits.{limit};
-ghost use Rattle.forest.specs.inside.Filling.{cells};
+ghost use Rattle.forest.specs.inside.Filling.{cellsFor};
 ghost use Rattle.forest.specs.inside.Cells.{Popped, Pushed, Parted, Made};
 use refusals::LIMIT;
 
-// The last code of a tip.
+// The last code of a tip, for powers.
 pub const LAST_TIP: u16 = LIMIT as u16;
 
 // A bush taken from the stack, and the height that is left.
@@ -67,11 +68,11 @@ pub fn push(stack: &mut [u16], height: usize, bush: u16) -> usize
 }
 
 // The two parts of a bush.
-pub fn part(lefts: &[u16], rights: &[u16], bush: u16) -> Parts
-    requires { ⌜ (bush < length (now lefts)) × (bush < length (now rights)) × (length (now lefts) ≡ cells) ⌝ }
-    ensures { λ r. ⌜ Parted (now (lefts .entry)) (now (rights .entry)) bush (r .left) (r .right) ⌝ }
+pub fn part(last: u16, lefts: &[u16], rights: &[u16], bush: u16) -> Parts
+    requires { ⌜ (last ≤ limit) × (bush < length (now lefts)) × (bush < length (now rights)) ⌝ }
+    ensures { λ r. ⌜ Parted last (now (lefts .entry)) (now (rights .entry)) bush (r .left) (r .right) ⌝ }
 {
-    if bush <= LAST_TIP {
+    if bush <= last {
         return Parts {
             left: bush + 1,
             right: 0,
@@ -85,14 +86,22 @@ pub fn part(lefts: &[u16], rights: &[u16], bush: u16) -> Parts
 }
 
 // Two bushes under one fork: a tip where the fork is taken away, else a new cell.
-pub fn join(lefts: &mut [u16], rights: &mut [u16], used: usize, left: u16, right: u16) -> Cell
-    requires { ⌜ (limit < used) × (used < cells) × (length (now lefts) ≡ cells) × (length (now rights) ≡ cells) ⌝ }
-    ensures { λ r. ⌜ Made (now (lefts .entry)) (now (rights .entry)) used left right (now (lefts .exit))
+pub fn join(
+    last: u16,
+    lefts: &mut [u16],
+    rights: &mut [u16],
+    used: usize,
+    left: u16,
+    right: u16,
+) -> Cell
+    requires { ⌜ (last ≤ limit) × (last < used) × (used < cellsFor last) × (cellsFor last ≤ length (now lefts))
+        × (cellsFor last ≤ length (now rights)) ⌝ }
+    ensures { λ r. ⌜ Made last (now (lefts .entry)) (now (rights .entry)) used left right (now (lefts .exit))
         (now (rights .exit)) (r .used) (r .bush) ⌝ }
 {
     if right == 0 {
         if 0 < left {
-            if left <= LAST_TIP {
+            if left <= last {
                 return Cell {
                     bush: left - 1,
                     used,

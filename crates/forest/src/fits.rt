@@ -1,18 +1,29 @@
-// Whether powers and scratch fit the engine for powers.
+// Whether powers and scratch fit the engine.
 ghost use mathlib.Core.Path.{_≡_};
 ghost use mathlib.Core.Bool.{true, false, cond};
 ghost use lib.Dec.{eqb, ltb};
 ghost use Rattle.lists.specs.Entries.{total};
 ghost use Rattle.group.specs.Limits.{limit};
-ghost use Rattle.forest.specs.inside.Filling.{cells};
+ghost use Rattle.forest.specs.inside.Filling.{lastTip, cells};
 ghost use Rattle.forest.specs.inside.Seeking.{frontRoom, rowRoom};
 ghost use Rattle.forest.specs.inside.FillingPowers.{indicesFit, powersFit};
 use crate::CELLS;
 use crate::FRONT_ROOM;
 use crate::ROW_ROOM;
 use crate::cells::LAST_TIP;
+use refusals::LIMIT;
 
-// Whether the scratch has the right sizes, by the lengths of its four slices.
+// The last code of a tip that a word of so many letters needs.
+pub fn last_tip(letters: usize) -> usize
+    ensures { λ r. ⌜ r ≡ lastTip letters ⌝ }
+{
+    if LIMIT < letters {
+        return LIMIT;
+    }
+    letters
+}
+
+// Whether the scratch for powers has the right sizes, by the lengths of its four slices.
 pub fn scratch_fits(lefts: usize, rights: usize, before: usize, stack: usize) -> bool
     ensures { λ r. ⌜ r ≡ cond (eqb lefts cells)
         (cond (eqb rights cells) (cond (eqb before frontRoom) (eqb stack rowRoom) false) false) false ⌝ }

@@ -2,6 +2,7 @@
 // lent.
 ghost use Rattle.forest.specs.inside.Handing.{HandedOver, PileReady, PileRead};
 use crate::Filling;
+use crate::cells::LAST_TIP;
 use crate::leaves::Levels;
 use crate::leaves::read_off;
 use refusals::LIMIT;
@@ -50,6 +51,15 @@ pub fn read_pile(
 {
     let mut b = [0u16; TABLE];
     let mut a = [0u16; TABLE];
-    let levels = read_off(lefts, rights, stack, height, &mut b, &mut a, TABLE);
+    let levels = read_off(
+        LAST_TIP,
+        lefts,
+        rights,
+        stack,
+        height,
+        &mut b,
+        &mut a,
+        TABLE,
+    );
     hand_over(levels, &b, &a, b_table, a_table)
 }

@@ -7,6 +7,7 @@ ghost use Rattle.group.specs.inside.PowerLists.{sideOf};
 ghost use Rattle.forest.specs.inside.Seeking.{Seekable, Sought, MovedOn, Skipped, Storing};
 ghost use Rattle.forest.specs.inside.Seeking.{TurnReady, Turned, PowerRoom, PowerPut};
 ghost use Rattle.forest.specs.inside.Seeking.{PowersReady, PowersPiled};
+use crate::cells::LAST_TIP;
 use crate::cells::join;
 use crate::cells::part;
 use crate::cells::pop;
@@ -130,14 +131,14 @@ fn turn(side: u8, lefts: &mut [u16], rights: &mut [u16], stack: &mut [u16], hand
 {
     if side == 0 {
         let p = pop(stack, hand.height);
-        let j = join(lefts, rights, hand.used, hand.bush, p.bush);
+        let j = join(LAST_TIP, lefts, rights, hand.used, hand.bush, p.bush);
         return Hand {
             used: j.used,
             height: p.height,
             bush: j.bush,
         };
     }
-    let p = part(lefts, rights, hand.bush);
+    let p = part(LAST_TIP, lefts, rights, hand.bush);
     let height = push(stack, hand.height, p.right);
     Hand {
         used: hand.used,

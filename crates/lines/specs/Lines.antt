@@ -5,8 +5,8 @@
 -- Assumes nothing.
 use mathlib.Core.Bool.{cond}
 use mathlib.Core.List.{List, [], _∷_, _++_}
-use Prim.Native.Nat.{ℕ}
-use lib.ListN.{take}
+use Prim.Native.Nat.{ℕ, _+_}
+use lib.ListN.{length, take}
 use lib.Dec.{eqb}
 
 -- 0A hex
@@ -36,6 +36,11 @@ cutTo m (l ∷ ls) = take m l ∷ cutTo m ls
 abbrev pub joinLines : List (List ℕ) → List ℕ
 joinLines [] = []
 joinLines (l ∷ ls) = l ++ (lineFeed ∷ joinLines ls)
+
+-- The bytes of all lines, line ends left out.
+abbrev pub lineBytes : List (List ℕ) → ℕ
+lineBytes [] = 0
+lineBytes (l ∷ ls) = length l + lineBytes ls
 
 -- The parts of an input, one behind another.
 abbrev pub wholeOf : List (List ℕ) → List ℕ

@@ -13,7 +13,11 @@ ghost use Rattle.receipts.specs.inside.Taking.{PartTaken};
 use refusals::LIMIT;
 use refusals::Refusal;
 use refusals::Reply;
+use rows::CELLS;
+use rows::RECORD;
+use rows::ROOM;
 use rows::SHORT_RECEIPT;
+use rows::TABLE;
 
 // The bytes of a line that are kept: one more than a word has letters.
 pub const LINE: usize = LIMIT + 1;
@@ -63,34 +67,85 @@ fn is_enough(out: usize, part: usize) -> bool
     part <= (out - 8 * LINE) / (SHORT_RECEIPT + 8)
 }
 
-// The receipt of a line, at a place of a buffer that has room for it.
-fn put_at(number: u64, line: &[u8], out: &mut [u8], at: usize) -> usize
+// The receipt of a line, at a place of a buffer that has room for it; the line is worked out in the other arrays.
+fn put_at(
+    number: u64,
+    line: &[u8],
+    out: &mut [u8],
+    at: usize,
+    b: &mut [u16; TABLE],
+    a: &mut [u16; TABLE],
+    record: &mut [u8; RECORD],
+    lefts: &mut [u16; CELLS],
+    rights: &mut [u16; CELLS],
+    stack: &mut [u16; ROOM],
+) -> usize
     requires { ⌜ at + receiptSize (length (now line)) ≤ length (now out) ⌝ }
     ensures { λ r. ⌜ Wrote (receiptOf number (now (line .entry))) (now (out .entry)) at (now (out .exit)) r ⌝ }
 {
-    let reply = rows::put_receipt(number, line, &mut out[at..]);
+    let reply = rows::put_receipt(
+        number,
+        line,
+        &mut out[at..],
+        b,
+        a,
+        record,
+        lefts,
+        rights,
+        stack,
+    );
     at + refusals::count_of(reply)
 }
 
-// The receipt of the bytes of a line that are held in a buffer.
-fn put_held(number: u64, line: &[u8], held: usize, out: &mut [u8], at: usize) -> usize
+// The receipt of the bytes of a line that are held in a buffer, in the same way.
+fn put_held(
+    number: u64,
+    line: &[u8],
+    held: usize,
+    out: &mut [u8],
+    at: usize,
+    b: &mut [u16; TABLE],
+    a: &mut [u16; TABLE],
+    record: &mut [u8; RECORD],
+    lefts: &mut [u16; CELLS],
+    rights: &mut [u16; CELLS],
+    stack: &mut [u16; ROOM],
+) -> usize
     requires { ⌜ at + receiptSize (length (take held (now line))) ≤ length (now out) ⌝ }
     ensures { λ r. ⌜ Wrote (receiptOf number (take held (now (line .entry)))) (now (out .entry)) at
         (now (out .exit)) r ⌝ }
 {
     if held < line.len() {
-        return put_at(number, &line[..held], out, at);
+        return put_at(
+            number,
+            &line[..held],
+            out,
+            at,
+            b,
+            a,
+            record,
+            lefts,
+            rights,
+            stack,
+        );
     }
-    put_at(number, line, out, at)
+    put_at(number, line, out, at, b, a, record, lefts, rights, stack)
 }
 
-// The receipts of the lines that end in a part, at the front of a buffer.
+// The receipts of the lines that end in a part, at the front of a buffer; the lines are worked out in the other arrays,
+// each as the one before it left them.
 fn serve_lines(
     part: &[u8],
     number: u64,
     held: usize,
     line: &mut [u8; LINE],
     out: &mut [u8],
+    b: &mut [u16; TABLE],
+    a: &mut [u16; TABLE],
+    record: &mut [u8; RECORD],
+    lefts: &mut [u16; CELLS],
+    rights: &mut [u16; CELLS],
+    stack: &mut [u16; ROOM],
 ) -> Served
     requires { ⌜ partSize (length (now part)) ≤ length (now out) ⌝ }
     ensures { λ r. ⌜ PartTaken (served (now (part .entry)) number (now (line .entry)) held) (now (out .entry))
@@ -105,7 +160,7 @@ fn serve_lines(
         at = fed.next;
         h = fed.held;
         if fed.ended {
-            written = put_held(k, line, h, out, written);
+            written = put_held(k, line, h, out, written, b, a, record, lefts, rights, stack);
             k = std::num::wrapping_add_u64(k, 1);
             h = 0;
         }
@@ -118,7 +173,8 @@ fn serve_lines(
 }
 
 // A part of the input, from the number of the line that has begun and the bytes of it that are held: the receipts of
-// the lines that end in the part, at the front of the buffer.
+// the lines that end in the part, at the front of the buffer. The arrays in which lines are worked out are cleared once
+// for all of them: to clear them for each would take longer than a short line.
 pub fn serve(
     part: &[u8],
     number: u64,
@@ -132,7 +188,25 @@ pub fn serve(
     if !is_enough(out.len(), part.len()) {
         return Serving::Refused(Refusal::ShortBuffer);
     }
-    Serving::Taken(serve_lines(part, number, held, line, out))
+    let mut b = [0u16; TABLE];
+    let mut a = [0u16; TABLE];
+    let mut record = [0u8; RECORD];
+    let mut lefts = [0u16; CELLS];
+    let mut rights = [0u16; CELLS];
+    let mut stack = [0u16; ROOM];
+    Serving::Taken(serve_lines(
+        part,
+        number,
+        held,
+        line,
+        out,
+        &mut b,
+        &mut a,
+        &mut record,
+        &mut lefts,
+        &mut rights,
+        &mut stack,
+    ))
 }
 
 // Behind the last part: the receipt of a line that has no end, at the front of the buffer.
@@ -145,5 +219,23 @@ pub fn finish(number: u64, held: usize, line: &[u8; LINE], out: &mut [u8]) -> Re
     if held == 0 {
         return Reply::Number(0);
     }
-    Reply::Number(put_held(number, line, held, out, 0))
+    let mut b = [0u16; TABLE];
+    let mut a = [0u16; TABLE];
+    let mut record = [0u8; RECORD];
+    let mut lefts = [0u16; CELLS];
+    let mut rights = [0u16; CELLS];
+    let mut stack = [0u16; ROOM];
+    Reply::Number(put_held(
+        number,
+        line,
+        held,
+        out,
+        0,
+        &mut b,
+        &mut a,
+        &mut record,
+        &mut lefts,
+        &mut rights,
+        &mut stack,
+    ))
 }

@@ -1,4 +1,4 @@
--- The receipt of a line from what the call `word_to_record` answers and leaves of it. Assumes nothing.
+-- The receipt of a line from what word to record answers and leaves of it. Assumes nothing.
 use mathlib.Core.Path.{_≡_, sym, ap, ap₂, _∙_}
 use mathlib.Core.List.{List}
 use Prim.Native.Nat.{ℕ, _+_, _≤_}
@@ -27,8 +27,9 @@ use Rattle.words.specs.Recording.{encodeWord, bufferAfter, Memory, judgedWith, 
 use Rattle.words.proofs.Judged.{RecordFit, accepted-record}
 use Rattle.rows.specs.Receipts.{refusalReceipt, receiptBy, receiptOf}
 use Rattle.letters.specs.Judging.{lineRead}
-use Rattle.rows.specs.inside.Steps.{valueIn, recordRow, tablesRow, LineRoom}
-use Rattle.rows.proofs.LineReads.{line-judged}
+use Rattle.words.specs.inside.Lending.{LineRoom}
+use Rattle.words.proofs.LineReads.{line-judged}
+use Rattle.rows.specs.inside.Steps.{valueIn, recordRow, tablesRow}
 use Rattle.rows.proofs.WordTables.{sideTable, table-carets, table-length}
 
 module _ {line : List ℕ} {m m′ : Memory} {r : Reply} (h : LineRoom line m) (c : Recorded line m m′ r) where

@@ -7,27 +7,17 @@ ghost use Rattle.refusals.specs.Refusals.{numberOf, placeOf};
 ghost use Rattle.trees.specs.inside.Writing.{pairingOf};
 ghost use Rattle.lengths.specs.inside.Contracts.{lengthOf};
 ghost use Rattle.words.specs.Recording.{memory};
-ghost use Rattle.rows.specs.Receipts.{receiptOf, refusalReceipt};
-ghost use Rattle.rows.specs.Receipts.{receiptSize};
-ghost use Rattle.rows.specs.inside.Steps.{valueIn, fourNumbers, numbersSize, refusalSize, recordRow};
-ghost use Rattle.rows.specs.inside.Steps.{tablesRow};
-ghost use Rattle.rows.specs.inside.Steps.{smallLetters, LineRoom};
+ghost use Rattle.words.specs.inside.Lending.{LineRoom};
+ghost use Rattle.rows.specs.Receipts.{receiptOf, refusalReceipt, receiptSize};
+ghost use Rattle.rows.specs.inside.Steps.{valueIn, fourNumbers, numbersSize, refusalSize};
+ghost use Rattle.rows.specs.inside.Steps.{recordRow, tablesRow};
+use crate::CELLS;
+use crate::ROOM;
 use crate::text;
 use lengths::Length;
-use records::BASE_SIZE;
-use refusals::LIMIT;
 use refusals::Refusal;
-use refusals::Reply;
 use trees::Pairing;
-
-// The bytes of the longest record that a word has.
-const RECORD: usize = BASE_SIZE + 4 * LIMIT;
-
-// A line of at most so many letters is written from short tables: to clear long ones takes longer than all the rest.
-const SMALL: usize = 64;
-
-// The bytes of the longest record of a word of SMALL letters.
-const SMALL_RECORD: usize = BASE_SIZE + 4 * SMALL;
+use words::Recording;
 
 // Line number, `refused`, number, place.
 fn put_refusal(number: u64, r: Refusal, out: &mut [u8], at: usize) -> usize
@@ -110,24 +100,28 @@ fn put_tables(
     )
 }
 
-// The receipt of a line; the tables and the record of a word are written into lent memory, whatever it holds.
-fn put_in(
+// The receipt of a line, at the front of a buffer that has room for it. The tables and the record of a word are written
+// into lent memory; it and the scratch serve every line, so that no line finds them unfit.
+pub fn put_line(
     number: u64,
     line: &[u8],
+    out: &mut [u8],
     b: &mut [u16],
     a: &mut [u16],
     record: &mut [u8],
-    out: &mut [u8],
-    at: usize,
+    lefts: &mut [u16; CELLS],
+    rights: &mut [u16; CELLS],
+    stack: &mut [u16; ROOM],
 ) -> usize
     requires { ⌜ LineRoom (now line) (memory (now b) (now a) (now «record»)) ⌝ }
-    requires { ⌜ at + receiptSize (length (now line)) ≤ length (now out) ⌝ }
-    ensures { λ r. ⌜ Wrote (receiptOf number (now (line .entry))) (now (out .entry)) at (now (out .exit)) r ⌝ }
+    requires { ⌜ receiptSize (length (now line)) ≤ length (now out) ⌝ }
+    ensures { λ r. ⌜ Wrote (receiptOf number (now (line .entry))) (now (out .entry)) 0 (now (out .exit)) r ⌝ }
 {
-    let written = words::word_to_record(line, b, a, record);
-    match written {
-        Reply::Refused(r) => put_refusal(number, r, out, at),
-        Reply::Number(n) => {
+    let recording = words::record_with(line, b, a, record, lefts, rights, stack);
+    match recording {
+        Recording::Refused(r) => put_refusal(number, r, out, 0),
+        Recording::Unfit => put_refusal(number, Refusal::BadFrame, out, 0),
+        Recording::Bytes(n) => {
             let entries = line.len() + 1;
             put_tables(
                 number,
@@ -136,42 +130,8 @@ fn put_in(
                 &a[..entries],
                 &record[..n],
                 out,
-                at,
+                0,
             )
         }
     }
-}
-
-// The receipt of a line of at most SMALL letters.
-fn put_small(number: u64, line: &[u8], out: &mut [u8], at: usize) -> usize
-    requires { ⌜ length (now line) ≤ smallLetters ⌝ }
-    requires { ⌜ at + receiptSize (length (now line)) ≤ length (now out) ⌝ }
-    ensures { λ r. ⌜ Wrote (receiptOf number (now (line .entry))) (now (out .entry)) at (now (out .exit)) r ⌝ }
-{
-    let mut b = [0u16; SMALL + 1];
-    let mut a = [0u16; SMALL + 1];
-    let mut record = [0u8; SMALL_RECORD];
-    put_in(number, line, &mut b, &mut a, &mut record, out, at)
-}
-
-// The receipt of a line of any length.
-fn put_large(number: u64, line: &[u8], out: &mut [u8], at: usize) -> usize
-    requires { ⌜ at + receiptSize (length (now line)) ≤ length (now out) ⌝ }
-    ensures { λ r. ⌜ Wrote (receiptOf number (now (line .entry))) (now (out .entry)) at (now (out .exit)) r ⌝ }
-{
-    let mut b = [0u16; LIMIT + 1];
-    let mut a = [0u16; LIMIT + 1];
-    let mut record = [0u8; RECORD];
-    put_in(number, line, &mut b, &mut a, &mut record, out, at)
-}
-
-// The receipt of a line, at the front of a buffer that has room for it.
-pub fn put_line(number: u64, line: &[u8], out: &mut [u8]) -> usize
-    requires { ⌜ receiptSize (length (now line)) ≤ length (now out) ⌝ }
-    ensures { λ r. ⌜ Wrote (receiptOf number (now (line .entry))) (now (out .entry)) 0 (now (out .exit)) r ⌝ }
-{
-    if line.len() <= SMALL {
-        return put_small(number, line, out, 0);
-    }
-    put_large(number, line, out, 0)
 }

@@ -2,13 +2,13 @@
 // given, how much of two tables and of a buffer it is lent, the same of a second word, and behind a bar a name; what a
 // call does not use may be left out. Each line is printed, and below it the answer; a heading, `# ..`, has none. The
 // file `stdout` has what is expected.
-ghost use Prim.Native.Nat.{_<_, _≤_};
-ghost use lib.ListN.{length};
+use cases::counts;
+use cases::fields;
+use cases::parts;
 use libc::STDIN_FILENO;
 use receipts::OUTPUT;
 
 mod memory;
-mod parts;
 mod printing;
 mod reading;
 mod runs;
@@ -36,7 +36,7 @@ fn answer(line: &[u8], given: &mut [u8; GIVEN], out: &mut [u8; OUTPUT]) {
     let m = reading::bytes(line, &mut at, &mut other);
     let s2 = reading::sizes_at(line, &mut at);
     let bytes = parts::front(given, n);
-    let kind = reading::byte(line, 0);
+    let kind = parts::byte(line, 0);
     match kind {
         b'#' => {}
         b'g' => spheres::spheres(),
@@ -49,22 +49,10 @@ fn answer(line: &[u8], given: &mut [u8; GIVEN], out: &mut [u8; OUTPUT]) {
 // A line and its answer.
 fn take_line(line: &[u8]) {
     let mut given = [0u8; GIVEN];
-    let mut out = [printing::BYTE; OUTPUT];
-    printing::text(line);
+    let mut out = [parts::BYTE; OUTPUT];
+    counts::print_text(line);
     answer(line, &mut given, &mut out);
-    printing::text(b"\n");
-}
-
-// The place behind the line that begins at a place.
-fn line_end(text: &[u8], start: usize) -> usize
-    requires { ⌜ start < length (now text) ⌝ }
-    ensures { λ r. ⌜ (start < r) × (r ≤ length (now (text .entry))) ⌝ }
-{
-    let mut i = start;
-    while i < text.len() && text[i] != b'\n' {
-        i += 1;
-    }
-    if i < text.len() { i + 1 } else { i }
+    counts::print_text(b"\n");
 }
 
 // All lines.
@@ -73,7 +61,7 @@ fn run(input: &mut [u8; INPUT]) {
     let text = parts::front(input, n);
     let mut at = 0;
     while at < text.len() {
-        let end = line_end(text, at);
+        let end = fields::line_end(text, at);
         take_line(&text[at..end]);
         at = end;
     }

@@ -1,10 +1,10 @@
 // The calls on words, records and texts, each lent memory of the sizes that a line asks for.
-use crate::parts;
 use crate::printing;
-use crate::printing::BYTE;
 use crate::printing::ENTRY;
 use crate::printing::TABLE;
-use crate::reading::Sizes;
+use cases::fields::Sizes;
+use cases::parts;
+use cases::parts::BYTE;
 use refusals::Verdict;
 use thompson::Answer;
 

@@ -1,27 +1,17 @@
 // What is printed, as `0 14 b 0:1 1:0 2:1 3:55555 a 0:0 3:55555 0=0100..`: the two numbers of an answer, each table
 // where its entries change, the new bytes of the buffer. Where nothing was altered only `b` and `a` stand there.
+use cases::counts::print_number;
+use cases::counts::print_text;
+use cases::parts::BYTE;
 use libc::STDOUT_FILENO;
 use refusals::Refusal;
 use thompson::Answer;
 
-// What a table entry and a byte hold before a call.
+// What a table entry holds before a call.
 pub const ENTRY: u16 = 55555;
-
-pub const BYTE: u8 = 0xEE;
 
 // The entries of a table, more than any call fills.
 pub const TABLE: usize = 4200;
-
-// A text.
-pub fn text(bytes: &[u8]) {
-    io::write_all(STDOUT_FILENO, bytes);
-}
-
-// A text, and a number behind it.
-pub fn named(name: &[u8], n: u64) {
-    text(name);
-    io::print_decimal(STDOUT_FILENO, n);
-}
 
 // A refusal as the exported calls have it.
 pub fn refused(r: Refusal) -> Answer {
@@ -33,21 +23,21 @@ pub fn refused(r: Refusal) -> Answer {
 
 // The number of a refusal and its place, or 0 and the value.
 pub fn answer(a: Answer) {
-    named(b"", a.refusal);
-    named(b" ", a.value);
+    print_number(b"", a.refusal);
+    print_number(b" ", a.value);
 }
 
 // An entry that is not the one before it.
 fn entry(i: usize, before: u16, x: u16) {
     if x != before {
-        named(b" ", i as u64);
-        named(b":", x as u64);
+        print_number(b" ", i as u64);
+        print_number(b":", x as u64);
     }
 }
 
 // The entries of a table that are not the one before them; before the first stands what all held before the call.
 fn table(name: &[u8], entries: &[u16; TABLE]) {
-    text(name);
+    print_text(name);
     let mut before = ENTRY;
     let mut i = 0;
     while i < TABLE {
@@ -63,8 +53,8 @@ fn changed(i: usize, before: u8, x: u8) {
         return;
     }
     if before == BYTE {
-        named(b" ", i as u64);
-        text(b"=");
+        print_number(b" ", i as u64);
+        print_text(b"=");
     }
     io::print_hex(STDOUT_FILENO, x as u64, 2);
 }

@@ -1,18 +1,8 @@
 // The fields of a line, read from a place on. The place stands before a field, on a space, a star or a dot, and is left
 // behind it, on the next one.
+use cases::fields::Sizes;
+use cases::parts;
 use std::num::wrapping_add_usize;
-
-// How much of two tables and of a buffer is lent.
-pub struct Sizes {
-    pub b: usize,
-    pub a: usize,
-    pub out: usize,
-}
-
-// The byte at a place, or 0.
-pub fn byte(line: &[u8], at: usize) -> u8 {
-    if at < line.len() { line[at] } else { 0 }
-}
 
 // A number of at most six decimal digits.
 pub fn number(line: &[u8], at: &mut usize) -> usize {
@@ -52,7 +42,7 @@ fn part(line: &[u8], at: &mut usize, out: &mut [u8], k: usize) -> usize {
     let start = *at;
     let mut end = digits(line, at, out, k);
     let mut left = 1;
-    if byte(line, *at) == b'*' {
+    if parts::byte(line, *at) == b'*' {
         left = number(line, at);
     }
     while left > 1 {
@@ -67,7 +57,7 @@ fn part(line: &[u8], at: &mut usize, out: &mut [u8], k: usize) -> usize {
 pub fn bytes(line: &[u8], at: &mut usize, out: &mut [u8]) -> usize {
     let mut k = part(line, at, out, 0);
     let mut left = line.len();
-    while left > 0 && byte(line, *at) == b'.' {
+    while left > 0 && parts::byte(line, *at) == b'.' {
         k = part(line, at, out, k);
         left -= 1;
     }

@@ -1,7 +1,8 @@
 // The receipts of an input that comes in parts.
-use crate::parts;
 use crate::printing;
-use crate::reading::Sizes;
+use cases::counts;
+use cases::fields::Sizes;
+use cases::parts;
 use receipts::LINE;
 use receipts::Served;
 use receipts::Serving;
@@ -13,13 +14,13 @@ use std::num::wrapping_add_usize;
 fn refused(r: Refusal, out: &[u8]) {
     printing::answer(printing::refused(r));
     printing::buffer(out);
-    printing::text(b"\n");
+    counts::print_text(b"\n");
 }
 
 // What a call put at the front of the output buffer.
 fn show(w: Reply, out: &[u8]) {
     match w {
-        Reply::Number(n) => printing::text(parts::front(out, n)),
+        Reply::Number(n) => counts::print_text(parts::front(out, n)),
         Reply::Refused(r) => refused(r, out),
     }
 }
@@ -29,7 +30,7 @@ fn take_part(part: &[u8], s: Served, line: &mut [u8; LINE], out: &mut [u8], size
     let serving = receipts::serve(part, s.number, s.held, line, parts::front_mut(out, size));
     match serving {
         Serving::Taken(t) => {
-            printing::text(parts::front(out, t.written));
+            counts::print_text(parts::front(out, t.written));
             t
         }
         Serving::Refused(r) => {
@@ -42,7 +43,7 @@ fn take_part(part: &[u8], s: Served, line: &mut [u8; LINE], out: &mut [u8], size
 // The receipts of an input in parts of s.b bytes, with s.out bytes of the output buffer lent; at the start s.a is the
 // number of the line, and so many of its bytes are held.
 pub fn receipts(input: &[u8], s: Sizes, held: usize, out: &mut [u8]) {
-    let mut line = [printing::BYTE; LINE];
+    let mut line = [parts::BYTE; LINE];
     let mut m = Served {
         number: s.a as u64,
         held,

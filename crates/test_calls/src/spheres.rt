@@ -9,8 +9,8 @@
 // - Distinct: by that, each element of length n is met by one word; equal records are one element (claims, Demand3).
 // The length is that of `record_to_length`, on the record that `word_to_record` writes, for each word by itself.
 ghost use Prim.Native.Nat.{_≤_};
-use crate::parts;
-use crate::printing;
+use cases::counts;
+use cases::parts;
 
 // The radius of the last sphere.
 const RADIUS: usize = 11;
@@ -75,7 +75,7 @@ pub fn spheres() {
     walk(&mut word, 0, 0, &mut counts);
     let mut n = 0;
     while n < LETTERS {
-        printing::named(b" ", counts[n]);
+        counts::print_number(b" ", counts[n]);
         n += 1;
     }
 }

@@ -1,9 +1,8 @@
 // The length of a pair by its tables, which need not be those of a record.
 ghost use Prim.Native.Nat.{_<_};
-use crate::parts;
-use crate::printing;
-use crate::reading;
-use crate::reading::Sizes;
+use cases::counts;
+use cases::fields::Sizes;
+use cases::parts;
 use lengths::Length;
 use std::num::wrapping_add_usize;
 
@@ -14,7 +13,7 @@ const ENTRIES: usize = 8200;
 fn entry(bytes: &[u8], i: usize) -> u16
     requires { ⌜ i < 8200 ⌝ }
 {
-    reading::byte(bytes, 2 * i) as u16 * 256 + reading::byte(bytes, 2 * i + 1) as u16
+    parts::byte(bytes, 2 * i) as u16 * 256 + parts::byte(bytes, 2 * i + 1) as u16
 }
 
 // The entries of a table, 0 behind the last.
@@ -30,8 +29,8 @@ fn read(bytes: &[u8], table: &mut [u16; ENTRIES]) {
 fn length(b: &[u16; ENTRIES], a: &[u16; ENTRIES], s: Sizes) {
     let length = lengths::pair_length(parts::entries(b, s.b), parts::entries(a, s.a));
     match length {
-        Length::Letters(n) => printing::named(b"", n as u64),
-        Length::Unfit => printing::text(b"unfit"),
+        Length::Letters(n) => counts::print_number(b"", n as u64),
+        Length::Unfit => counts::print_text(b"unfit"),
     }
 }
 

@@ -1,7 +1,6 @@
-// The call, and the sizes of what is lent to it.
-use crate::fields;
-use crate::fields::field;
-use crate::parts;
+// The call on a register, with memory that is not looked at afterwards.
+use cases::fields::Sizes;
+use cases::parts;
 use updates::AccountOf;
 use updates::Entered;
 
@@ -9,22 +8,6 @@ use updates::Entered;
 pub const TABLE: usize = 80;
 
 pub const RECORD: usize = 300;
-
-// How much of the tables and of the record buffer is lent.
-pub struct Sizes {
-    pub b: usize,
-    pub a: usize,
-    pub record: usize,
-}
-
-// The sizes in a line.
-pub fn lent(line: &[u8]) -> Sizes {
-    Sizes {
-        b: fields::number(field(line, 2)) as usize,
-        a: fields::number(field(line, 3)) as usize,
-        record: fields::number(field(line, 4)) as usize,
-    }
-}
 
 // A word entered, with so much lent of memory that is not looked at afterwards.
 pub fn enter(word: &[u8], s: Sizes, holder: u16, register: &mut [u8]) -> Entered {
@@ -35,7 +18,7 @@ pub fn enter(word: &[u8], s: Sizes, holder: u16, register: &mut [u8]) -> Entered
         word,
         parts::entries_mut(&mut b, s.b),
         parts::entries_mut(&mut a, s.a),
-        parts::front_mut(&mut record, s.record),
+        parts::front_mut(&mut record, s.out),
         holder,
         register,
     )

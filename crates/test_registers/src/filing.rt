@@ -4,12 +4,12 @@ use crate::answers;
 use crate::answers::Told;
 use crate::calling;
 use crate::calling::RECORD;
-use crate::calling::Sizes;
 use crate::calling::TABLE;
-use crate::fields;
-use crate::fields::field;
 use crate::kept;
-use crate::parts;
+use cases::fields;
+use cases::fields::Sizes;
+use cases::fields::field;
+use cases::parts;
 use refusals::Reply;
 use std::num::wrapping_add_u64;
 use std::num::wrapping_add_usize;
@@ -37,7 +37,7 @@ fn own_record(word: &[u8], s: Sizes, record: &mut [u8]) -> Reply {
     let mut a = [0u16; TABLE];
     let b_table = parts::entries_mut(&mut b, s.b);
     let a_table = parts::entries_mut(&mut a, s.a);
-    words::word_to_record(word, b_table, a_table, parts::front_mut(record, s.record))
+    words::word_to_record(word, b_table, a_table, parts::front_mut(record, s.out))
 }
 
 // What the list says of a record of n bytes that is not in it.
@@ -99,7 +99,7 @@ fn front(record: &[u8; RECORD], n: usize) -> &[u8] {
 fn file(s: State, line: &[u8], word: &[u8], list: &mut [u8], register: &mut [u8]) -> Filed {
     let mut own = [0u8; RECORD];
     let holder = fields::holder(field(line, 5));
-    let lent = calling::lent(line);
+    let lent = fields::lent(line);
     let reply = own_record(word, lent, &mut own);
     let record = front(&own, refusals::count_of(reply));
     let told = listed(s, reply, holder, record, list);

@@ -3,15 +3,15 @@
 // the holder is full, f where the register is, w where the word is refused.
 use crate::answers::Told;
 use crate::calling;
-use crate::counts;
-use crate::counts::Counts;
-use crate::fields;
 use crate::filing;
 use crate::filing::SIZE;
 use crate::filing::State;
 use crate::kept::LIST;
 use crate::odd;
-use crate::parts;
+use cases::counts;
+use cases::counts::Counts;
+use cases::fields;
+use cases::parts;
 use std::num::wrapping_add_u64;
 
 // The letter of an answer.

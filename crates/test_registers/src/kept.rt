@@ -1,7 +1,6 @@
 // A plain list of holders and records, in the order in which they were kept: each in a slot, the two bytes of the
 // holder first, then how many bytes the record has.
-use crate::parts;
-use std::num::wrapping_add_usize;
+use cases::parts;
 
 // The bytes of a slot, and of a list of 128.
 const SLOT: usize = 64;
@@ -53,20 +52,11 @@ pub fn live(list: &[u8], count: usize, holder: u16) -> u64 {
     sum
 }
 
-// A record, from a place on.
-fn put_record(list: &mut [u8], at: usize, bytes: &[u8]) {
-    let mut k = 0;
-    while k < bytes.len() {
-        parts::put(list, wrapping_add_usize(at, k), bytes[k]);
-        k += 1;
-    }
-}
-
 // A holder and a record in slot i.
 pub fn keep(list: &mut [u8], i: usize, holder: u16, bytes: &[u8]) {
     let at = i % 128 * SLOT;
     parts::put(list, at, (holder / 256) as u8);
     parts::put(list, at + 1, (holder % 256) as u8);
     parts::put(list, at + 2, (bytes.len() % SLOT) as u8);
-    put_record(list, at + 3, bytes);
+    parts::put_all(list, at + 3, bytes);
 }

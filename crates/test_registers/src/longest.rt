@@ -2,11 +2,11 @@
 // holder 65,535 into a fresh register of that size, and the bytes that stand at its front then.
 use crate::answers;
 use crate::calling;
-use crate::calling::Sizes;
-use crate::fields;
-use crate::fields::field;
-use crate::parts;
-use crate::parts::BYTE;
+use cases::fields;
+use cases::fields::Sizes;
+use cases::fields::field;
+use cases::parts;
+use cases::parts::BYTE;
 use registers::MOST_BYTES;
 
 // Whether a case is right.
@@ -17,7 +17,7 @@ pub fn right(line: &[u8]) -> bool {
     let lent = Sizes {
         b: 2,
         a: 2,
-        record: 10,
+        out: 10,
     };
     let told = answers::of(calling::enter(
         b"a",

@@ -2,21 +2,20 @@
 // and of the record buffer, the holder and the register, and behind an arrow the answer, the record and the register as
 // they must be then: `file` is a seeded case, `trap` one with a name behind a bar. `long`, `odd` and `run` have other
 // forms. Each case that fails is printed, then how many are right.
+use cases::counts;
+use cases::counts::Counts;
+use cases::fields;
+use cases::parts;
 use libc::STDIN_FILENO;
 
 mod answers;
 mod calling;
-mod cases;
-mod counts;
-mod fields;
+mod entering;
 mod filing;
 mod history;
 mod kept;
 mod longest;
 mod odd;
-mod parts;
-
-use counts::Counts;
 
 // The most bytes of all cases.
 const INPUT: usize = 131072;
@@ -26,7 +25,7 @@ fn right(line: &[u8], kind: u8) -> bool {
     match kind {
         b'l' => longest::right(line),
         b'o' => odd::right(line),
-        _ => cases::right(line),
+        _ => entering::right(line),
     }
 }
 
@@ -50,13 +49,18 @@ fn lines(text: &[u8], kind: u8) -> Counts {
     c
 }
 
-fn main() {
-    let mut input = [0u8; INPUT];
-    let n = io::read_full(STDIN_FILENO, &mut input);
-    let text = parts::front(&input, n);
+// All cases, kind by kind.
+fn run(input: &mut [u8; INPUT]) {
+    let n = io::read_full(STDIN_FILENO, input);
+    let text = parts::front(input, n);
     counts::print(lines(text, b'f'), b"vectors");
     counts::print(lines(text, b't'), b"traps");
     counts::print(lines(text, b'l'), b"long registers");
     counts::print(lines(text, b'o'), b"odd bytes");
     counts::print(history::filings(text), b"filings and the end");
+}
+
+fn main() {
+    let mut input = [0u8; INPUT];
+    run(&mut input);
 }

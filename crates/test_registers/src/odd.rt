@@ -1,9 +1,9 @@
 // The calls that read a register, on bytes that are none or hardly one: each answers, whatever the offset. A line has
 // the call, the bytes, what else is given, and behind an arrow the answer: `check` 0 or the refusal, `end` where the
 // entries end or 0, `find` the number found or 0, `at` a head, the end or a refusal.
-use crate::fields;
-use crate::fields::field;
-use crate::parts;
+use cases::fields;
+use cases::fields::field;
+use cases::parts;
 use refusals::Verdict;
 use registers::EntryAt;
 use registers::Heading;

@@ -15,9 +15,9 @@ use Rattle.refusals.specs.declared.Reply.{Reply}
 use Rattle.refusals.specs.declared.Reply.the-variants as Replies
 use Rattle.refusals.specs.Refusals.{numberOf, placeOf}
 use Rattle.refusals.specs.Outcomes.{refused, refusal, verdictOf, replyOf}
-use Rattle.words.specs.declared.Comparison.{Comparison}
-use Rattle.words.specs.declared.Comparison.the-variants.{Same, Different, First, Second}
-use Rattle.words.specs.Comparing.{refusedWord, decisionOf}
+use Rattle.comparisons.specs.declared.Comparison.{Comparison}
+use Rattle.comparisons.specs.declared.Comparison.the-variants.{Same, Different, First, Second}
+use Rattle.comparisons.specs.Comparing.{refusedWord, decisionOf}
 use Rattle.updates.specs.declared.AccountOf.{AccountOf}
 use Rattle.updates.specs.declared.AccountOf.the-variants as Accounts
 use Rattle.updates.specs.declared.Entered.{Entered}

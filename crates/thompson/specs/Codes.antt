@@ -7,7 +7,7 @@
 use mathlib.Core.Path.{_≡_}
 use Prim.Native.Nat.{ℕ, zero, suc, _+_, _*_, _/_, _%_}
 use Rattle.refusals.specs.Outcomes.{Outcome, accepted, refused, valued}
-use Rattle.words.specs.Comparing.{Decision, same, different, refusedWord}
+use Rattle.comparisons.specs.Comparing.{Decision, same, different, refusedWord}
 use Rattle.updates.specs.declared.AccountOf.{AccountOf}
 use Rattle.updates.specs.Accounts.{accountOf}
 use Rattle.updates.specs.Entering.{Reply, newEntry, present, Answer as Entry, replyNumber}

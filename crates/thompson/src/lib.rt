@@ -5,7 +5,8 @@ ghost use mathlib.Core.Path.{_≡_};
 ghost use Rattle.refusals.specs.Outcomes.{verdictOf, replyOf};
 ghost use Rattle.records.specs.Checking.{Checked};
 ghost use Rattle.words.specs.Recording.{memory, Recorded};
-ghost use Rattle.words.specs.Comparing.{decisionOf, Compared};
+ghost use Rattle.comparisons.specs.Comparing.{decisionOf, Compared};
+ghost use Rattle.wordlists.specs.Listing.{Listed};
 ghost use Rattle.pairs.specs.Contracts.{Paired, Measured};
 ghost use Rattle.spelling.specs.Contracts.{Spelled};
 ghost use Rattle.notation.specs.Contracts.{TextRecorded, TextWritten};
@@ -13,12 +14,12 @@ ghost use Rattle.registers.specs.Answers.{RegisterChecked};
 ghost use Rattle.updates.specs.Accounts.{AccountRead};
 ghost use Rattle.updates.specs.Entering.{enteredOf, EnteredWord};
 ghost use Rattle.thompson.specs.Codes.{codeOf, codeOfDecision, codeOfEntered, liveOf, Passed};
+use comparisons::Comparison;
 use refusals::Refusal;
 use refusals::Reply;
 use refusals::Verdict;
 use updates::AccountOf;
 use updates::Entered;
-use words::Comparison;
 
 // A refusal's number and place, or 0 and the call's value.
 #[repr(C)]
@@ -155,6 +156,21 @@ pub extern "C" fn thompson_word_to_record(
     from_reply(words::word_to_record(word, b_table, a_table, record))
 }
 
+// Many words in one call; the value is the number of bytes written.
+#[no_mangle]
+pub extern "C" fn thompson_list_to_records(
+    list: &[u8],
+    b_table: &mut [u16],
+    a_table: &mut [u16],
+    records: &mut [u8],
+) -> Answer
+    ensures { λ r. ⌜ Passed (λ a. codeOf (replyOf a)) (Listed (now (list .entry))
+        (memory (now («b_table» .entry)) (now («a_table» .entry)) (now (records .entry)))
+        (memory (now («b_table» .exit)) (now («a_table» .exit)) (now (records .exit)))) r ⌝ }
+{
+    from_reply(wordlists::list_to_records(list, b_table, a_table, records))
+}
+
 // Record check; the value is 0.
 #[no_mangle]
 pub extern "C" fn thompson_check_record(record: &[u8]) -> Answer
@@ -237,7 +253,7 @@ pub extern "C" fn thompson_same_element(
         (memory (now («b_table2» .entry)) (now («a_table2» .entry)) (now (record2 .entry)))
         (memory (now («b_table2» .exit)) (now («a_table2» .exit)) (now (record2 .exit)))) r ⌝ }
 {
-    from_comparison(words::same_element(
+    from_comparison(comparisons::same_element(
         word1,
         b_table1,
         a_table1,

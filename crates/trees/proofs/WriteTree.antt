@@ -79,43 +79,40 @@ copied-same e m i = go (decLt i (length e))
         ≡⟨ sym (List·getD-eq-default e 0 (omega arith)) ⟩
         getD e i 0 ∎
 
--- The zeros that a table is copied to.
-abbrev zeros : List ℕ
-zeros = replicate maxCarets 0
-
-zeros-length : length zeros ≡ maxCarets
-zeros-length = length-replicate {A = ℕ} maxCarets 0
-
--- The copy needs as many carets and has the same tree.
-module _ {e : List ℕ} {n : ℕ} {buffer : List ℕ} (f : ShapeFits e n buffer) {table : List ℕ}
-    (copied : Copied e zeros (length e) table) where
+-- A copy to m zeros needs as many carets and has the same tree.
+module _ {e : List ℕ} {n : ℕ} {buffer : List ℕ} (f : ShapeFits e n buffer) (m : ℕ) (few : length e ≤ m) (enough : n ≤ m)
+    (small : m ≤ maxCarets) {table : List ℕ} (copied : Copied e (replicate m 0) (length e) table) where
   -- There is room for all entries.
-  table-room : length e ≤ length zeros
-  table-room = omega (arith, zeros-length, f .entries)
+  zeros-length : length (replicate {A = ℕ} m 0) ≡ m
+  zeros-length = length-replicate {A = ℕ} m 0
 
-  table-copied : table ≡ copiedFront e zeros
+  table-room : length e ≤ length (replicate {A = ℕ} m 0)
+  table-room = omega (arith, zeros-length, few)
+
+  table-copied : table ≡ copiedFront e (replicate m 0)
   table-copied = copied .fits (omega arith) table-room
 
   table-same : SameEntries table e
-  table-same i = ap (λ (t : List ℕ). getD t i 0) table-copied ∙ copied-same e maxCarets i
+  table-same i = ap (λ (t : List ℕ). getD t i 0) table-copied ∙ copied-same e m i
 
-  table-length : length table ≡ maxCarets
+  table-length : length table ≡ m
   table-length =
       length table ≡⟨ ap length table-copied ⟩
-      length (copiedFront e zeros) ≡⟨ filled-length (length e) (λ j. getD e j 0) zeros table-room ⟩
-      length zeros ≡⟨ zeros-length ⟩
-      maxCarets ∎
+      length (copiedFront e (replicate m 0))
+      ≡⟨ filled-length (length e) (λ j. getD e j 0) (replicate m 0) table-room ⟩
+      length (replicate {A = ℕ} m 0) ≡⟨ zeros-length ⟩
+      m ∎
 
   pub copied-fits : ShapeFits table n buffer
   copied-fits = record {
-    entries = omega (arith, table-length);
+    entries = omega (arith, table-length, small);
     enough = omega (arith, needed-same table e table-same, f .enough);
     small = f .small;
     room = f .room;
   }
 
   pub copied-whole : n ≤ length table
-  copied-whole = omega (arith, table-length, f .small)
+  copied-whole = omega (arith, table-length, enough)
 
   pub copied-tree : treeOf n table ≡ treeOf n e
   copied-tree = tree-same n table e table-same

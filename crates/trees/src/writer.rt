@@ -9,10 +9,14 @@ ghost use Rattle.lists.specs.inside.Writes.{Wrote};
 ghost use Rattle.trees.specs.inside.Writing.{nodesFrom};
 ghost use Rattle.trees.specs.Building.{treeOf};
 ghost use Rattle.trees.specs.Shapes.{shape as shapeOf};
-ghost use Rattle.trees.specs.inside.Steps.{NodesFit, Partly, ShapeFits};
+ghost use Rattle.trees.specs.inside.Steps.{NodesFit, Partly, ShapeFits, smallCarets};
 use crate::MAX_CARETS;
 use refusals::GeneratorIndex;
 use refusals::LeafNumber;
+
+// A shorter table of a tree of at most so many carets is copied to a short array: to clear a long one takes longer than
+// to write the tree.
+const SMALL: usize = 64;
 
 // How far a shape is written: the next leaf, and the place of its first node.
 pub struct Place {
@@ -109,14 +113,38 @@ fn write_whole(e: &[u16], n: usize, shape: &mut [u8])
     write_spine(&e[..n], LeafNumber(0), shape, 0);
 }
 
-// The same tree from a shorter table: zeros stand behind its entries.
-fn write_short(e: &[u16], n: usize, shape: &mut [u8])
+// The same tree from a shorter table: zeros stand behind its entries. A tree of at most SMALL carets.
+fn write_small(e: &[u16], n: usize, shape: &mut [u8])
+    requires { ⌜ ShapeFits (now e) n (now shape) ⌝ }
+    requires { ⌜ (length (now e) ≤ smallCarets) × (n ≤ smallCarets) ⌝ }
+    ensures { λ _. ⌜ now (shape .exit) ≡ sets (now (shape .entry)) 0 (shapeOf (treeOf n (now (e .entry)))) ⌝ }
+{
+    let mut table = [0u16; SMALL];
+    copying::copy_front(e, &mut table, e.len());
+    write_whole(&table, n, shape);
+}
+
+// A tree of any number of carets.
+fn write_large(e: &[u16], n: usize, shape: &mut [u8])
     requires { ⌜ ShapeFits (now e) n (now shape) ⌝ }
     ensures { λ _. ⌜ now (shape .exit) ≡ sets (now (shape .entry)) 0 (shapeOf (treeOf n (now (e .entry)))) ⌝ }
 {
     let mut table = [0u16; MAX_CARETS];
     copying::copy_front(e, &mut table, e.len());
     write_whole(&table, n, shape);
+}
+
+// The tree with n carets and the exponents of a table with fewer entries.
+fn write_short(e: &[u16], n: usize, shape: &mut [u8])
+    requires { ⌜ ShapeFits (now e) n (now shape) ⌝ }
+    requires { ⌜ length (now e) ≤ n ⌝ }
+    ensures { λ _. ⌜ now (shape .exit) ≡ sets (now (shape .entry)) 0 (shapeOf (treeOf n (now (e .entry)))) ⌝ }
+{
+    if n <= SMALL {
+        write_small(e, n, shape);
+        return;
+    }
+    write_large(e, n, shape);
 }
 
 // The tree with n carets and the exponents of a table, at the front of a buffer.

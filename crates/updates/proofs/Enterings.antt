@@ -22,9 +22,9 @@ use Rattle.fields.specs.Fields.{Bytes, fourBytes, headSize}
 use Rattle.records.specs.Format.{encode}
 use Rattle.forest.specs.Filling.{tableAfter}
 use Rattle.words.specs.Recording.{Memory, bufferAfter, judgedWith, Left, Recorded}
-use Rattle.words.specs.Comparing.{beside}
+use Rattle.words.specs.Recording.{beside}
 use Rattle.words.specs.inside.Writing.{Accepts}
-use Rattle.words.proofs.Compared.{verdict-refused}
+use Rattle.words.proofs.Written.{verdict-refused}
 use Rattle.registers.specs.Format.{Entry, Register, registerBytes, entryBytes, endMark, stored}
 use Rattle.registers.specs.Reading.{live}
 use Rattle.registers.proofs.Written.{Holds, register-written}

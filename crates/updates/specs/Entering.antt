@@ -17,7 +17,7 @@ use Rattle.group.specs.Products.{formOf}
 use Rattle.refusals.specs.Outcomes.{Outcome, accepted, refused, after, then, valued, refusal}
 use Rattle.fields.specs.Fields.{Bytes}
 use Rattle.words.specs.Recording.{Memory, judgedWith, Left}
-use Rattle.words.specs.Comparing.{beside}
+use Rattle.words.specs.Recording.{beside}
 use Rattle.registers.specs.Format.{Register, registerBytes, numberMost, liveMost, stored}
 use Rattle.registers.specs.Reading.{live, numberFor, readRegister}
 use Rattle.updates.specs.declared.Account.{Account}

@@ -49,6 +49,23 @@ module _ (word : List ℕ) (nb na nr : ℕ) where
             roomy = ltb-false nr (bufferSize (length word)) (test .0);
           }
 
+  -- Where the buffer has room, the tables' judgement stands.
+  pub judged-roomy : bufferSize (length word) ≤ nr → judgedRecord word nb na nr ≡ judged word nb na
+  judged-roomy le = go (judged word nb na) refl
+    where
+      go : (o : Outcome Word) → judged word nb na ≡ o → judgedRecord word nb na nr ≡ judged word nb na
+      go (refused n p) e = judged-then (refused n p) e ∙ sym e
+      go (accepted w) e =
+          judged-then (accepted w) e ∙ simp (le-ltb nr (bufferSize (length word)) le) (sym e)
+
+  -- Where it has none, the word is refused, by 7 or by what comes before.
+  pub judged-short : nr < bufferSize (length word) → (n p : ℕ) × (judgedRecord word nb na nr ≡ refused n p)
+  judged-short lt = go (judged word nb na) refl
+    where
+      go : (o : Outcome Word) → judged word nb na ≡ o → (n p : ℕ) × (judgedRecord word nb na nr ≡ refused n p)
+      go (refused n p) e = (n, p, judged-then (refused n p) e)
+      go (accepted w) e = (7, 0, judged-then (accepted w) e ∙ simp (lt-ltb nr (bufferSize (length word)) lt))
+
   -- The first judgement refused.
   pub judge-refuses : (v : Verdict) (r : Refusal) → verdictOf v ≡ dropValue (judged word nb na) → v ≡ Refused r
       → verdictOf v ≡ dropValue (judgedRecord word nb na nr)

@@ -1,4 +1,6 @@
--- Laws of the two calls.
+-- Laws of word to record.
 pub mod Judged
+pub mod Written
 pub mod Recorded
-pub mod Compared
+pub mod Lent
+pub mod LineReads

@@ -1,5 +1,4 @@
--- Word to record, and two words.
+-- Word to record.
 pub mod Recording
-pub mod Comparing
 -- what no claim reaches
 pub mod inside

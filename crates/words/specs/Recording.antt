@@ -56,6 +56,11 @@ pub record Left (o : Outcome Word) (entry exit : Memory) : Type 0 where
   pub a-table : exit .a ≡ tableAfter aSide o (entry .a)
   pub bytes : exit .buffer ≡ bufferAfter o (entry .buffer)
 
+-- A word's own outcome, where what is judged beside it is accepted too; else a refusal.
+abbrev pub beside : {A B : Type 0} → Outcome A → Outcome B → Outcome A
+beside own (accepted v) = own
+beside own (refused number place) = refused number place
+
 -- For every word and whatever is lent with it.
 pub record Recorded (word : List ℕ) (entry exit : Memory) (r : Reply) : Type 0 where
   pub result : replyOf r ≡ countRecord (judgedWith word entry)

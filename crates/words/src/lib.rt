@@ -1,20 +1,32 @@
-// Word to record, and two words: judged first, and nothing that was lent is touched on a refusal.
+// Word to record, also with scratch that is lent: judged first, and nothing that was lent is touched on a refusal.
 ghost use mathlib.Core.Path.{_≡_};
 ghost use Rattle.refusals.specs.Outcomes.{verdictOf, dropValue};
 ghost use Rattle.words.specs.Recording.{judgedRecord, memory, Recorded};
-ghost use Rattle.words.specs.Comparing.{decisionOf, verdictBy, Compared};
+ghost use Rattle.words.specs.inside.Lending.{RecordedWith, replyIn};
+use forest::Filling;
 use refusals::Refusal;
 use refusals::Reply;
 use refusals::Verdict;
 
-mod writing;
+mod lending;
 
-// Whether two words have one record, or a refusal of the first or of the second.
-pub enum Comparison {
-    Same,
-    Different,
-    First(Refusal),
-    Second(Refusal),
+// The answer of `record_with`: the bytes of the record; a refusal; or scratch that is too short.
+pub enum Recording {
+    Bytes(usize),
+    Refused(Refusal),
+    Unfit,
+}
+
+// The reply of a call whose scratch is long enough. Too short scratch has none, and `BadFrame` stands for it; no caller
+// asks it there.
+pub fn reply_of(recording: Recording) -> Reply
+    ensures { λ r. ⌜ r ≡ replyIn recording ⌝ }
+{
+    match recording {
+        Recording::Bytes(n) => Reply::Number(n),
+        Recording::Refused(r) => Reply::Refused(r),
+        Recording::Unfit => Reply::Refused(Refusal::BadFrame),
+    }
 }
 
 // Refusals 1, 2, 6 and 7, in this order; the lengths are those of the two tables and of the record buffer.
@@ -32,6 +44,43 @@ pub fn judge(word: &[u8], b_length: usize, a_length: usize, record_length: usize
     Verdict::Accepted
 }
 
+// Word to record with scratch that is lent, of any content: with m the lesser of the word's letters and the limit,
+// `lefts` and `rights` of at least 2 · m + 1 entries and `stack` of at least m + 2. So CELLS, CELLS and ROOM entries of
+// `forest` serve every word.
+pub fn record_with(
+    word: &[u8],
+    b_table: &mut [u16],
+    a_table: &mut [u16],
+    record: &mut [u8],
+    lefts: &mut [u16],
+    rights: &mut [u16],
+    stack: &mut [u16],
+) -> Recording
+    ensures { λ r. ⌜ RecordedWith (now (word .entry))
+        (memory (now («b_table» .entry)) (now («a_table» .entry)) (now («record» .entry)))
+        (memory (now («b_table» .exit)) (now («a_table» .exit)) (now («record» .exit)))
+        (now (lefts .entry)) (now (rights .entry)) (now (stack .entry)) (now (lefts .exit)) (now (rights .exit))
+        (now (stack .exit)) r ⌝ }
+{
+    if lending::is_short(record.len(), word.len()) {
+        return lending::refuse_short(
+            word,
+            b_table.len(),
+            a_table.len(),
+            record.len(),
+            lefts.len(),
+            rights.len(),
+            stack.len(),
+        );
+    }
+    let filling = forest::fill_tables(word, b_table, a_table, lefts, rights, stack);
+    let Filling::Filled(n) = filling else {
+        return lending::unfilled(filling);
+    };
+    let encoding = encoding::write_record(&b_table[..n], &a_table[..n], record);
+    Recording::Bytes(encoding::bytes_written(encoding))
+}
+
 // Word to record: the exponents of the word's reduced form in the two tables, its record at the front of the buffer.
 pub fn word_to_record(
     word: &[u8],
@@ -43,69 +92,8 @@ pub fn word_to_record(
         (memory (now («b_table» .entry)) (now («a_table» .entry)) (now («record» .entry)))
         (memory (now («b_table» .exit)) (now («a_table» .exit)) (now («record» .exit))) r ⌝ }
 {
-    let verdict = judge(word, b_table.len(), a_table.len(), record.len());
-    if let Verdict::Refused(r) = verdict {
-        return Reply::Refused(r);
+    if word.len() <= lending::SMALL {
+        return lending::small_record(word, b_table, a_table, record);
     }
-    let mut lefts = [0u16; forest::CELLS];
-    let mut rights = [0u16; forest::CELLS];
-    let mut stack = [0u16; forest::ROOM];
-    Reply::Number(writing::write_word(
-        word,
-        b_table,
-        a_table,
-        record,
-        &mut lefts,
-        &mut rights,
-        &mut stack,
-    ))
-}
-
-// The verdict of two accepted words.
-fn verdict(same: bool) -> Comparison
-    ensures { λ r. ⌜ decisionOf r ≡ verdictBy same ⌝ }
-{
-    if same {
-        return Comparison::Same;
-    }
-    Comparison::Different
-}
-
-// Two words: same or different by their records. Both are judged before anything is written, the first word first.
-pub fn same_element(
-    word1: &[u8],
-    b_table1: &mut [u16],
-    a_table1: &mut [u16],
-    record1: &mut [u8],
-    word2: &[u8],
-    b_table2: &mut [u16],
-    a_table2: &mut [u16],
-    record2: &mut [u8],
-) -> Comparison
-    ensures { λ r. ⌜ Compared (now (word1 .entry))
-        (memory (now («b_table1» .entry)) (now («a_table1» .entry)) (now (record1 .entry)))
-        (memory (now («b_table1» .exit)) (now («a_table1» .exit)) (now (record1 .exit)))
-        (now (word2 .entry))
-        (memory (now («b_table2» .entry)) (now («a_table2» .entry)) (now (record2 .entry)))
-        (memory (now («b_table2» .exit)) (now («a_table2» .exit)) (now (record2 .exit))) r ⌝ }
-{
-    let first = judge(word1, b_table1.len(), a_table1.len(), record1.len());
-    if let Verdict::Refused(r) = first {
-        return Comparison::First(r);
-    }
-    let second = judge(word2, b_table2.len(), a_table2.len(), record2.len());
-    if let Verdict::Refused(r) = second {
-        return Comparison::Second(r);
-    }
-    let same = writing::write_two(
-        word1,
-        b_table1,
-        a_table1,
-        record1,
-        word2,
-        b_table2,
-        a_table2,
-        record2,
-    );
-    verdict(same)
+    lending::large_record(word, b_table, a_table, record)
 }

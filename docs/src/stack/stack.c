@@ -14,6 +14,7 @@ static uint8_t word[LETTERS], record1[THOMPSON_RECORD(LETTERS)], record2[THOMPSO
 static uint8_t t_minus[THOMPSON_SHAPE(THOMPSON_CARETS)], t_plus[THOMPSON_SHAPE(THOMPSON_CARETS)];
 static uint16_t b1[LETTERS + 1], a1[LETTERS + 1], b2[LETTERS + 1], a2[LETTERS + 1];
 static uint8_t text[THOMPSON_TEXT(LETTERS)], filed[THOMPSON_REGISTER_MOST];
+static uint8_t list[LETTERS + 4], records[THOMPSON_LIST(2, LETTERS + 2)];
 static size_t length, text_length;
 static thompson_answer answer;
 static thompson_filing filing;
@@ -22,6 +23,16 @@ static void *nothing(void *p) { return p; }
 
 static void *word_to_record(void *p) {
     length = thompson_word_to_record(word, LETTERS, b1, LETTERS + 1, a1, LETTERS + 1, record1, sizeof record1).value;
+    return p;
+}
+
+static void *short_word_to_record(void *p) {
+    thompson_word_to_record(word, 16, b1, LETTERS + 1, a1, LETTERS + 1, record1, sizeof record1);
+    return p;
+}
+
+static void *list_to_records(void *p) {
+    answer = thompson_list_to_records(list, sizeof list, b1, LETTERS + 1, a1, LETTERS + 1, records, sizeof records);
     return p;
 }
 
@@ -194,6 +205,12 @@ int main(void) {
     size_t none = depth(nothing);
     printf("a thread with no call  %zu bytes\n", none);
     printf("word to record         %zu bytes more\n", depth(word_to_record) - none);
+    printf("  of 16 letters        %zu bytes more\n", depth(short_word_to_record) - none);
+    memcpy(list, word, LETTERS);
+    memcpy(list + LETTERS, "\nab\n", 4);
+    printf("list to records        %zu bytes more\n", depth(list_to_records) - none);
+    if (answer.refusal != 0) printf("refused with %d\n", (int)answer.refusal);
+    word_to_record(0);
     printf("record check           %zu bytes more\n", depth(check_record) - none);
     printf("two words              %zu bytes more\n", depth(same_element) - none);
     length = 0;

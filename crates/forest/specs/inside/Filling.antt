@@ -1,11 +1,11 @@
 -- The engine as a call inside the library: its scratch, its answers and its contract.
 -- Inside: no claim reaches these definitions; a reader of the claims need not believe them. Assumes nothing.
 use mathlib.Core.Path.{_≡_}
-use mathlib.Core.Bool.{Bool, false, cond}
+use mathlib.Core.Bool.{Bool, true, false, cond}
 use mathlib.Core.List.{List}
 use Prim.Native.Nat.{ℕ, _+_, _≤_}
 use lib.ListN.{length}
-use lib.Dec.{eqb}
+use lib.Dec.{ltb}
 use Rattle.group.specs.Letters.{Word}
 use Rattle.group.specs.Forms.{bSide, aSide, levels}
 use Rattle.group.specs.Products.{formOf}
@@ -16,24 +16,38 @@ use Rattle.forest.specs.declared.Filling.the-variants.{Filled, Refused, 
 use Rattle.letters.specs.Judging.{judged}
 use Rattle.forest.specs.Filling.{tableAfter}
 
--- Codes up to the limit are tips; each letter takes one cell more at most.
+-- The entries of `lefts` and of `rights`: codes up to the last tip are tips, and each letter takes one cell more at
+-- most.
+abbrev pub cellsFor : (last : ℕ) → ℕ
+cellsFor last = last + last + 1
+
+-- The entries of `stack`: the most bushes that stand on it at once.
+abbrev pub roomFor : (last : ℕ) → ℕ
+roomFor last = last + 2
+
+-- Where the last tip is the limit.
 abbrev pub cells : ℕ
-cells = limit + limit + 1
+cells = cellsFor limit
 
--- The most bushes that stand on the stack at once.
-abbrev pub room : ℕ
-room = limit + 2
+-- The last tip that n letters need: no word has more letters than the limit.
+abbrev pub lastTip : (n : ℕ) → ℕ
+lastTip n = cond (ltb limit n) limit n
 
--- The scratch has the sizes that the engine works with.
-abbrev pub fits : (lefts rights stack : List ℕ) → Bool
-fits lefts rights stack =
-    cond (eqb (length lefts) cells) (cond (eqb (length rights) cells) (eqb (length stack) room) false) false
+-- Scratch of these lengths is long enough for the engine.
+abbrev pub fitsFor : (last nl nr ns : ℕ) → Bool
+fitsFor last nl nr ns =
+    cond (ltb nl (cellsFor last)) false (cond (ltb nr (cellsFor last)) false (cond (ltb ns (roomFor last)) false true))
 
--- The word, beside tables and scratch. Scratch of other sizes comes first; 0 is no number of the paper, and no call of
--- the paper meets it.
+-- The scratch is long enough for a word.
+abbrev pub fits : (word lefts rights stack : List ℕ) → Bool
+fits word lefts rights stack =
+    fitsFor (lastTip (length word)) (length lefts) (length rights) (length stack)
+
+-- The word, beside tables and scratch. Scratch that is too short comes first; 0 is no number of the paper, and no call
+-- of the paper meets it.
 abbrev pub judgedIn : (word b a lefts rights stack : List ℕ) → Outcome Word
 judgedIn word b a lefts rights stack =
-    cond (fits lefts rights stack) (judged word (length b) (length a)) (refused 0 0)
+    cond (fits word lefts rights stack) (judged word (length b) (length a)) (refused 0 0)
 
 -- The outcome of each answer.
 abbrev pub fillingOf : Filling → Outcome ℕ

@@ -30,10 +30,10 @@ HandedOver read height ob oa b a b′ a′ r =
 
 -- The stack stands for bushes and has room for all their tips.
 pub record PileReady (lefts rights stack : List ℕ) (height : ℕ) : Type 0 where
-  pub lefts-length : length lefts ≡ cells
-  pub rights-length : length rights ≡ cells
+  pub lefts-length : cells ≤ length lefts
+  pub rights-length : cells ≤ length rights
   pub bushes : List Bush
-  pub stack-stands : StackStands lefts rights cells bushes stack height
+  pub stack-stands : StackStands limit lefts rights cells bushes stack height
   pub few : forestTips bushes ≤ length stack
 
 -- Powers whose row stands on the stack are read off and handed over.
@@ -41,5 +41,5 @@ abbrev pub PileRead : (lefts rights stack : List ℕ) (height : ℕ) (b a b′ a
 PileRead lefts rights stack height b a b′ a′ r =
     (ps : List SignedPower)
     → IndicesWithin limit ps
-    → StackStands lefts rights cells (cursorBushes (cursorOf ps)) stack height
+    → StackStands limit lefts rights cells (cursorBushes (cursorOf ps)) stack height
     → FilledAs (tablesFor (length b) (length a) ps) b a b′ a′ r

@@ -1,5 +1,4 @@
 -- What the functions of `row` promise: a letter on the stored row, and the row of a word. Assumes nothing.
-use mathlib.Core.Path.{_≡_}
 use mathlib.Core.Bool.{cond}
 use mathlib.Core.List.{List, [], _∷_}
 use Prim.Native.Nat.{ℕ, _+_, _≤_, _<_}
@@ -8,7 +7,7 @@ use lib.Dec.{eqb}
 use Rattle.group.specs.Letters.{Letter, 'a, 'A, 'b, 'B, Word}
 use Rattle.group.specs.Limits.{limit}
 use Rattle.forest.specs.declared.row.State.{State}
-use Rattle.forest.specs.inside.Filling.{cells, room}
+use Rattle.forest.specs.inside.Filling.{cellsFor, roomFor}
 use Rattle.forest.specs.inside.Forest.{Bush, Row, row, rowBushes, moveRow, rowOfWord}
 use Rattle.forest.specs.inside.Cells.{Stands, StackStands, Raisable}
 
@@ -30,46 +29,49 @@ stepWord [] = []
 stepWord (c ∷ s) = stepLetter c ∷ stepWord s
 
 -- The cells, the stack and the two codes of the state stand for the row.
-abbrev pub Held : (lefts rights stack : List ℕ) → State → Row → Type 0
-Held lefts rights stack s (row x y ts) =
-    Stands lefts rights (s .used) x (s .first)
-    × Stands lefts rights (s .used) y (s .second)
-    × StackStands lefts rights (s .used) ts stack (s .height)
+abbrev pub Held : (last : ℕ) (lefts rights stack : List ℕ) → State → Row → Type 0
+Held last lefts rights stack s (row x y ts) =
+    Stands last lefts rights (s .used) x (s .first)
+    × Stands last lefts rights (s .used) y (s .second)
+    × StackStands last lefts rights (s .used) ts stack (s .height)
 
 -- The bushes that a letter may part can be parted.
-abbrev pub RaisableRow : Row → Type 0
-RaisableRow (row x y ts) = Raisable x × Raisable y
+abbrev pub RaisableRow : (last : ℕ) → Row → Type 0
+RaisableRow last (row x y ts) = Raisable last x × Raisable last y
 
 -- There is room for one letter more.
-pub record Ready (lefts rights stack : List ℕ) (s : State) : Type 0 where
-  pub lefts-length : length lefts ≡ cells
-  pub rights-length : length rights ≡ cells
-  pub stack-length : length stack ≡ room
-  pub used-low : limit < s .used
-  pub used-high : s .used < cells
-  pub height-high : s .height < limit
-  pub first-high : s .first < cells
-  pub second-high : s .second < cells
+pub record Ready (last : ℕ) (lefts rights stack : List ℕ) (s : State) : Type 0 where
+  pub last-low : last ≤ limit
+  pub lefts-length : cellsFor last ≤ length lefts
+  pub rights-length : cellsFor last ≤ length rights
+  pub stack-length : roomFor last ≤ length stack
+  pub used-low : last < s .used
+  pub used-high : s .used < cellsFor last
+  pub height-high : s .height < last
+  pub first-high : s .first < cellsFor last
+  pub second-high : s .second < cellsFor last
 
 -- A letter moved the row.
-pub record Moved (x : Letter) (lefts rights stack : List ℕ) (s : State) (lefts′ rights′ stack′ : List ℕ) (s′ : State)
-    : Type 0 where
+pub record Moved (last : ℕ) (x : Letter) (lefts rights stack : List ℕ) (s : State) (lefts′ rights′ stack′ : List ℕ)
+    (s′ : State) : Type 0 where
   pub low : s .used ≤ s′ .used
   pub high : s′ .used ≤ s .used + 1
-  pub moves : (r : Row) → RaisableRow r → Held lefts rights stack s r → Held lefts′ rights′ stack′ s′ (moveRow x r)
+  pub moves : (r : Row) → RaisableRow last r → Held last lefts rights stack s r
+      → Held last lefts′ rights′ stack′ s′ (moveRow x r)
 
--- A word within the limit, and scratch of the right sizes and any content.
-pub record Scratch (word lefts rights stack : List ℕ) : Type 0 where
-  pub word-length : length word ≤ limit
-  pub lefts-length : length lefts ≡ cells
-  pub rights-length : length rights ≡ cells
-  pub stack-length : length stack ≡ room
+-- A word of at most `last` letters, and scratch that is long enough for it, of any content.
+pub record Scratch (last : ℕ) (word lefts rights stack : List ℕ) : Type 0 where
+  pub last-low : last ≤ limit
+  pub word-length : length word ≤ last
+  pub lefts-length : cellsFor last ≤ length lefts
+  pub rights-length : cellsFor last ≤ length rights
+  pub stack-length : roomFor last ≤ length stack
 
 -- The bushes of the row of bytes, from the left.
 abbrev pub bushesOf : List ℕ → List Bush
 bushesOf word = rowBushes (rowOfWord (stepWord word))
 
 -- The scratch, with all these bushes on the stack.
-pub record Piled (word lefts rights stack : List ℕ) (height : ℕ) : Type 0 where
-  pub scratch : Scratch word lefts rights stack
-  pub stack-stands : StackStands lefts rights cells (bushesOf word) stack height
+pub record Piled (last : ℕ) (word lefts rights stack : List ℕ) (height : ℕ) : Type 0 where
+  pub scratch : Scratch last word lefts rights stack
+  pub stack-stands : StackStands last lefts rights (cellsFor last) (bushesOf word) stack height

@@ -26,7 +26,7 @@ rowRoom = limit + limit + 4
 -- The two stacks stand for the bushes of the cursor.
 abbrev pub Stood : (lefts rights : List ℕ) (used : ℕ) (before stack : List ℕ) (front height : ℕ) → Cursor → Type 0
 Stood lefts rights used before stack front height (cursor ls ts) =
-    StackStands lefts rights used ls before front × StackStands lefts rights used ts stack height
+    StackStands limit lefts rights used ls before front × StackStands limit lefts rights used ts stack height
 
 -- The stacks stand for a cursor, and there is room to move it to place k.
 pub record Seekable (before stack : List ℕ) (front height k : ℕ) : Type 0 where
@@ -66,7 +66,7 @@ pub record Skipped (before : List ℕ) (front height k i : ℕ) : Type 0 where
 abbrev pub Raises : Side → ℕ → Bush → Type 0
 Raises bSide e t = Unit {0}
 Raises aSide zero t = Unit {0}
-Raises aSide (suc e) t = Raisable t × Raises aSide e (leftPart t)
+Raises aSide (suc e) t = Raisable limit t × Raises aSide e (leftPart t)
 
 -- There is room for one turn of the bush in hand.
 pub record TurnReady (lefts rights stack : List ℕ) (hand : Hand) : Type 0 where
@@ -82,12 +82,12 @@ pub record Turned (s : Side) (lefts rights stack : List ℕ) (hand : Hand) (left
     : Type 0 where
   pub low : hand .used ≤ hand′ .used
   pub high : hand′ .used ≤ hand .used + 1
-  pub keeps : (x : Bush) (code : ℕ) → Stands lefts rights (hand .used) x code
-      → Stands lefts′ rights′ (hand′ .used) x code
-  pub turns : (t : Bush) (ts : List Bush) → Raises s 1 t → Stands lefts rights (hand .used) t (hand .bush)
-      → StackStands lefts rights (hand .used) ts stack (hand .height)
-      → Stands lefts′ rights′ (hand′ .used) (nextBush s t ts) (hand′ .bush)
-      × StackStands lefts′ rights′ (hand′ .used) (nextRest s t ts) stack′ (hand′ .height)
+  pub keeps : (x : Bush) (code : ℕ) → Stands limit lefts rights (hand .used) x code
+      → Stands limit lefts′ rights′ (hand′ .used) x code
+  pub turns : (t : Bush) (ts : List Bush) → Raises s 1 t → Stands limit lefts rights (hand .used) t (hand .bush)
+      → StackStands limit lefts rights (hand .used) ts stack (hand .height)
+      → Stands limit lefts′ rights′ (hand′ .used) (nextBush s t ts) (hand′ .bush)
+      × StackStands limit lefts′ rights′ (hand′ .used) (nextRest s t ts) stack′ (hand′ .height)
       × (hand′ .height ≤ hand .height + 1)
 
 -- The stack stands for the bushes from the cursor on, and there is room for a power with the exponent e.
@@ -97,7 +97,7 @@ pub record PowerRoom (s : Side) (lefts rights stack : List ℕ) (used height e :
   pub used-low : limit < used
   pub used-high : used + e ≤ cells
   pub ts : List Bush
-  pub stood : StackStands lefts rights used ts stack height
+  pub stood : StackStands limit lefts rights used ts stack height
   pub raises : Raises s e (firstBush ts)
   pub deep : height + e < length stack
 
@@ -106,9 +106,9 @@ pub record PowerPut (s : Side) (lefts rights stack : List ℕ) (used height e : 
     (used′ height′ : ℕ) : Type 0 where
   pub low : used ≤ used′
   pub high : used′ ≤ used + e
-  pub keeps : (x : Bush) (code : ℕ) → Stands lefts rights used x code → Stands lefts′ rights′ used′ x code
-  pub puts : (ts : List Bush) → Raises s e (firstBush ts) → StackStands lefts rights used ts stack height
-      → StackStands lefts′ rights′ used′ (powerOn s e ts) stack′ height′
+  pub keeps : (x : Bush) (code : ℕ) → Stands limit lefts rights used x code → Stands limit lefts′ rights′ used′ x code
+  pub puts : (ts : List Bush) → Raises s e (firstBush ts) → StackStands limit lefts rights used ts stack height
+      → StackStands limit lefts′ rights′ used′ (powerOn s e ts) stack′ height′
 
 -- Powers within the limits, and scratch of the right sizes and any content.
 pub record PowersReady (indices exponents sides lefts rights before stack : List ℕ) : Type 0 where
@@ -127,5 +127,5 @@ powerBushes indices exponents sides = cursorBushes (cursorOf (powersIn indices e
 
 -- All these bushes stand on the stack, and it has room for all their tips.
 pub record PowersPiled (indices exponents sides lefts rights stack : List ℕ) (height : ℕ) : Type 0 where
-  pub stack-stands : StackStands lefts rights cells (powerBushes indices exponents sides) stack height
+  pub stack-stands : StackStands limit lefts rights cells (powerBushes indices exponents sides) stack height
   pub few : forestTips (powerBushes indices exponents sides) ≤ limit + 1 + limit

@@ -19,21 +19,29 @@ returns-2 c =
     place-long (receiptSize lineSize) _ _ _ refl (omega arith)
     (last-none (start .number) (start .held) (start .line .now) (start .out .now) (omega arith))
 
+-- Where the buffer of the line was lent, seen from where its receipt is put.
+abbrev lent : tie.After-stack → tie.After-put-held-arg
+lent c =
+    let at-out = c .before .before .before .before .before .before in
+    at-out .before
+
 put-held-requires : tie.Need-put-held-requires
 put-held-requires c κs =
-    let start = c .before .before .before .before .before .args in
-    omega (arith, c .before .put-held-arg .given .0, length-take (start .held) (start .line .now))
+    let at-line = lent c in
+    let start = at-line .before .before .before .before .args in
+    omega (arith, at-line .put-held-arg .given .0, length-take (start .held) (start .line .now))
 
 same-length : tie.Need-same-length
 same-length c = search needs
 
 returns-3 : tie.Need-returns-3
 returns-3 c =
-    let lent = c .before .before .before .before in
-    let start = lent .before .before .before .before .args in
+    let put = c .before .before in
+    let at-line = lent (put .before) in
+    let start = at-line .before .before .before .before .args in
     place-long (receiptSize lineSize) _ _ _ refl (omega arith)
-    (last-some (start .number) (start .held) (start .line .now) (lent .before .if2 .left)
-    (omega (arith, lent .put-held-arg .given .0)) (c .before .before .put-held .ensures))
+    (last-some (start .number) (start .held) (start .line .now) (at-line .before .if2 .left)
+    (omega (arith, at-line .put-held-arg .given .0)) (put .put-held .ensures))
 
 pub finish-spec : {M : Type 1} → statement M
 finish-spec = tie.close (tie.spec returns returns-2 put-held-requires same-length returns-3)

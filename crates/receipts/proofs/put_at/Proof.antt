@@ -23,10 +23,16 @@ put-receipt-requires c κs = search needs
 count-of-requires : tie.Need-count-of-requires
 count-of-requires c κs = search needs
 
+-- The entry, seen from where the receipt was put.
+abbrev entry : tie.After-put-receipt → tie.Start
+entry c =
+    let at-arg2 = c .before .before .before .before .before .before in
+    at-arg2 .before .before .before .before
+
 add-result : tie.Need-add-result
 add-result c =
     let put = c .before .before .before in
-    let start = put .before .before .before .before in
+    let start = entry put in
     let args = start .args in
     omega (
       arith,
@@ -43,7 +49,7 @@ same-length c = search needs
 returns : tie.Need-returns
 returns c =
     let put = c .before .before .before in
-    let start = put .before .before .before .before in
+    let start = entry put in
     let args = start .args in
     part-wrote (args .at) (receiptOf (args .number) (args .line .now)) (args .out .now)
     (receiptSize (length (args .line .now))) (put .put-receipt .result) (c .count-of .result) (start .pre)

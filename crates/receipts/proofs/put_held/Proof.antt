@@ -25,7 +25,8 @@ returns c = search needs
 
 put-at-requires-2 : tie.Need-put-at-requires-2
 put-at-requires-2 c κs =
-    let entry = c .before .before .before .before in
+    let at-arg9 = c .before .before .before .before .before .before in
+    let entry = at-arg9 .before .before .before .before in
     omega (arith, entry .pre, ap length (take-all (entry .args .held) (entry .args .line .now) (omega arith)))
 
 same-length-2 : tie.Need-same-length-2
@@ -34,7 +35,8 @@ same-length-2 c = search needs
 returns-2 : tie.Need-returns-2
 returns-2 c =
     let put = c .before .before in
-    let x = put .before .before .before .before .before .args in
+    let at-arg10 = put .before .before .before .before .before .before in
+    let x = at-arg10 .before .before .before .before .before .args in
     wrote-same
     (ap (λ (s : List ℕ). receiptOf (x .number) s) (sym (take-all (x .held) (x .line .now) (omega arith))))
     (put .put-at2 .ensures)

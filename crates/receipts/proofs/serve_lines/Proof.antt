@@ -9,11 +9,14 @@ use Rattle.receipts.proofs.serve_lines.Statement.{statement}
 use Rattle.receipts.proofs.serve_lines.Tie as tie
 
 abbrev Inv-loop : tie.InvT-loop
-Inv-loop part number held line₀ out₀ at₀ k₀ h₀ written₀ line out at k h written =
+Inv-loop part number held line₀ out₀ b₀ a₀ record₀ lefts₀ rights₀ stack₀ at₀ k₀ h₀ written₀
+    line out b a «record» lefts rights stack at k h written =
     Serves part out₀ (served part number line₀ held) line out at k h written
 
 abbrev μ-loop : tie.MeasureT-loop
-μ-loop part number held line₀ out₀ at₀ k₀ h₀ written₀ line out at k h written = length part - at
+μ-loop part number held line₀ out₀ b₀ a₀ record₀ lefts₀ rights₀ stack₀ at₀ k₀ h₀ written₀
+    line out b a «record» lefts rights stack at k h written =
+    length part - at
 
 loop-holds : tie.Need-loop-holds Inv-loop μ-loop
 loop-holds c = serve-start _ _ _ _ _ (c .before .before .fits .number .fits) (c .before .before .pre)
@@ -21,9 +24,15 @@ loop-holds c = serve-start _ _ _ _ _ (c .before .before .fits .number .fits) (c 
 feed-requires : tie.Need-feed-requires Inv-loop μ-loop
 feed-requires c κs = tt
 
+-- Where a line ended, seen from where its receipt is put.
+abbrev ended : tie.After-put-held-arg9 Inv-loop μ-loop → tie.Then1 Inv-loop μ-loop
+ended c =
+    let at-arg3 = c .before .before .before .before .before .before in
+    at-arg3 .before .before .before
+
 put-held-requires : tie.Need-put-held-requires Inv-loop μ-loop
 put-held-requires c κs =
-    let at-if1 = c .before .before .before in
+    let at-if1 = ended c in
     let at-feed = at-if1 .before in
     let at-feed-arg = at-feed .before in
     let at-loop = at-feed-arg .before .before in
@@ -35,7 +44,7 @@ wrapping-add-u64-requires c κs = tt
 loop-less : tie.Need-loop-less Inv-loop μ-loop
 loop-less c =
     let at-put-held = c .before .before .before in
-    let at-if1 = at-put-held .before .before .before .before in
+    let at-if1 = ended (at-put-held .before) in
     let at-feed = at-if1 .before in
     let at-loop-test = at-feed .before .before in
     let at-loop = at-loop-test .before in
@@ -44,7 +53,7 @@ loop-less c =
 loop-again : tie.Need-loop-again Inv-loop μ-loop
 loop-again c =
     let at-put-held = c .before .before .before in
-    let at-if1 = at-put-held .before .before .before .before in
+    let at-if1 = ended (at-put-held .before) in
     let at-feed = at-if1 .before in
     let at-loop = at-feed .before .before .before in
     serve-next (at-loop .loop .inv) (at-feed .feed .ensures) (at-if1 .if1 .taken) (at-put-held .put-held .ensures)

@@ -1,13 +1,9 @@
 -- The steps of the receipt writer, for the functions inside this crate. Assumes nothing.
 use mathlib.Core.List.{List, [], _∷_, _++_}
-use Prim.Native.Nat.{ℕ, suc, _+_, _*_, _≤_}
-use lib.ListN.{length}
-use Rattle.group.specs.Limits.{limit}
+use Prim.Native.Nat.{ℕ, _+_, _*_}
 use Rattle.refusals.specs.Outcomes.{Outcome, accepted, refused}
-use Rattle.records.specs.Format.{bufferSize}
 use Rattle.trees.specs.inside.Writing.{tableCarets}
 use Rattle.lengths.specs.inside.Contracts.{tableLength}
-use Rattle.words.specs.Recording.{Memory}
 use Rattle.numerals.specs.Decimals.{decimal}
 use Rattle.rows.specs.Text.{hexOf}
 use Rattle.rows.specs.Receipts.{joinFields}
@@ -45,13 +41,3 @@ recordRow k l m n bytes = joinFields (decimal k ∷ decimal l ∷ decimal m ∷ 
 abbrev pub tablesRow : (number letters : ℕ) (b a bytes : List ℕ) → List ℕ
 tablesRow number letters b a bytes =
     recordRow number letters (valueIn (tableCarets b a)) (valueIn (tableLength b a)) bytes
-
--- Lines of at most so many letters are written from short tables.
-abbrev pub smallLetters : ℕ
-smallLetters = 64
-
--- Memory that is long enough for a line, if it is within the limit.
-pub record LineRoom (line : List ℕ) (m : Memory) : Type 0 where
-  pub b-long : length line ≤ limit → suc (length line) ≤ length (m .b)
-  pub a-long : length line ≤ limit → suc (length line) ≤ length (m .a)
-  pub buffer-long : length line ≤ limit → bufferSize (length line) ≤ length (m .buffer)

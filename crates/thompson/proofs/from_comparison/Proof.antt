@@ -1,7 +1,7 @@
 -- `from_comparison` meets its contract: each case by its decision. Assumes nothing.
 use mathlib.Core.Path.{sym, ap, _∙_}
-use Rattle.words.specs.declared.Comparison.{Comparison}
-use Rattle.words.specs.Comparing.{decisionOf}
+use Rattle.comparisons.specs.declared.Comparison.{Comparison}
+use Rattle.comparisons.specs.Comparing.{decisionOf}
 use Rattle.thompson.specs.Codes.{codeOfDecision}
 use Rattle.thompson.proofs.Codes.{first-code}
 use borrow.Author.Needs.{needs}

@@ -31,6 +31,10 @@ pub record ShapeFits (e : List ℕ) (n : ℕ) (buffer : List ℕ) : Type 0 where
   pub small : n ≤ maxCarets
   pub room : shapeSize n ≤ length buffer
 
+-- Trees of at most so many carets are written from a short array.
+abbrev pub smallCarets : ℕ
+smallCarets = 64
+
 -- The entries of a table from i on are 0.
 pub record Unused (e : List ℕ) (i : ℕ) : Type 0 where
   pub within : i ≤ length e

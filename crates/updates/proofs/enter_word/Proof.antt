@@ -8,7 +8,7 @@ use borrow.Author.Needs.{needs}
 use Rattle.fields.specs.Fields.{Bytes}
 use Rattle.words.specs.Recording.{Memory, memory}
 use Rattle.words.specs.inside.Writing.{Accepts}
-use Rattle.words.proofs.Compared.{verdict-accepts}
+use Rattle.words.proofs.Written.{verdict-accepts}
 use Rattle.updates.proofs.OwnRecords.{count-inside}
 use Rattle.updates.proofs.Enterings.{word-refused, filing-refused, committable, entered-so}
 use Rattle.updates.proofs.enter_word.Statement.{statement}

@@ -10,19 +10,20 @@ use Rattle.forest.proofs.cells.join.Reads as reads
 use Rattle.forest.proofs.cells.join.Lts as lts
 
 -- Where the branches are left, the fork is not taken away.
-apart : (c : lts.Joined1 reads.Pre reads.Post) → Merges (c .before .args .left) (c .before .args .right) → ⊥
+apart : (c : lts.Joined1 reads.Pre reads.Post)
+    → Merges (c .before .args .last) (c .before .args .left) (c .before .args .right) → ⊥
 apart c m = elim (c .if1 .came) [
   | inl w ↦ omega (arith, w .2 .left, m .2)
   | inr v ↦ elim v [ inl w ↦ omega (arith, w .1 .left, m .1) | inr w ↦ w .left (m .0) ]
 ]
 
-sub-t9 : tie.Need-sub-t9
-sub-t9 c = search needs
+sub-t10 : tie.Need-sub-t10
+sub-t10 c = search needs
 
 returns : tie.Need-returns
 returns c =
     let g = c .before .before .before .args in
-    join-merged (g .lefts .now) (g .rights .now) (g .used) (g .left) (g .right)
+    join-merged (g .last) (g .lefts .now) (g .rights .now) (g .used) (g .left) (g .right)
     (c .before .before .if1 .taken, c .before .if2 .taken, c .if3 .taken)
 
 mul-lefts : tie.Need-mul-lefts
@@ -37,11 +38,11 @@ mul-rights c = search needs
 slice-write-rights : tie.Need-slice-write-rights
 slice-write-rights c = search needs
 
-cast-t13 : tie.Need-cast-t13
-cast-t13 c = search needs
+cast-t14 : tie.Need-cast-t14
+cast-t14 c = search needs
 
-add-t10 : tie.Need-add-t10
-add-t10 c = search needs
+add-t11 : tie.Need-add-t11
+add-t11 c = search needs
 
 same-length : tie.Need-same-length
 same-length c = search needs
@@ -53,21 +54,21 @@ returns-2 : tie.Need-returns-2
 returns-2 c =
     let g = c .before .args in
     let sizes = c .before .pre in
-    join-added (g .lefts .now) (g .rights .now) (g .used) (g .left) (g .right) (omega (arith, sizes))
-    (omega (arith, sizes)) (sizes .0) (apart c)
+    join-added (g .last) (g .lefts .now) (g .rights .now) (g .used) (g .left) (g .right) (omega (arith, sizes))
+    (omega (arith, sizes)) (sizes .1) (apart c)
 
 pub join-spec : {M : Type 1} → statement M
 join-spec =
     tie.close
     (tie.spec
-    sub-t9
+    sub-t10
     returns
     mul-lefts
     slice-write-lefts
     mul-rights
     slice-write-rights
-    cast-t13
-    add-t10
+    cast-t14
+    add-t11
     same-length
     same-length-2
     returns-2)

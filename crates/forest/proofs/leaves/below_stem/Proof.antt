@@ -8,20 +8,20 @@ use Rattle.forest.proofs.leaves.below_stem.Statement.{statement}
 use Rattle.forest.proofs.leaves.below_stem.Tie as tie
 
 abbrev Inv-loop : tie.InvT-loop
-Inv-loop lefts rights bush height code₀ code = StemPassed lefts rights bush height code
+Inv-loop last lefts rights bush height code₀ code = StemPassed last lefts rights bush height code
 
 abbrev μ-loop : tie.MeasureT-loop
-μ-loop lefts rights bush height code₀ code = code
+μ-loop last lefts rights bush height code₀ code = code
 
 returns : tie.Need-returns Inv-loop μ-loop
 returns c =
     let g = c .before .before .before .args in
-    walk-starts (g .lefts .now) (g .rights .now) (g .bush) (g .height)
+    walk-starts (g .last) (g .lefts .now) (g .rights .now) (g .bush) (g .height)
 
 loop-holds : tie.Need-loop-holds Inv-loop μ-loop
 loop-holds c =
     let g = c .before .before .before .args in
-    walk-starts (g .lefts .now) (g .rights .now) (g .bush) (g .height)
+    walk-starts (g .last) (g .lefts .now) (g .rights .now) (g .bush) (g .height)
 
 sub-next : tie.Need-sub-next Inv-loop μ-loop
 sub-next c = omega arith

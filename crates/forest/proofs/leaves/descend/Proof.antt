@@ -11,17 +11,20 @@ use Rattle.forest.proofs.leaves.descend.Statement.{statement}
 use Rattle.forest.proofs.leaves.descend.Tie as tie
 
 abbrev Inv-loop : tie.InvT-loop
-Inv-loop lefts rights stack₀ bush low code₀ edges₀ height₀ stack code edges height =
-    Walking lefts rights stack₀ bush low stack code edges height
+Inv-loop last lefts rights stack₀ bush low code₀ edges₀ height₀ stack code edges height =
+    Walking last lefts rights stack₀ bush low stack code edges height
 
 abbrev μ-loop : tie.MeasureT-loop
-μ-loop lefts rights stack₀ bush low code₀ edges₀ height₀ stack code edges height = code
+μ-loop last lefts rights stack₀ bush low code₀ edges₀ height₀ stack code edges height = code
+
+-- The entry, seen from the start of a turn.
+abbrev start : tie.In-loop Inv-loop μ-loop → tie.Start Inv-loop μ-loop
+start c = c .before .before .before .before .before .before
 
 -- What a turn may use, at its start.
 turn : (c : tie.In-loop Inv-loop μ-loop)
-    → Turn (length (c .before .before .before .before .before .before .args .stack .now))
-    (c .before .before .before .before .before .before .args .lefts .now) (c .before .loop .code)
-    (c .before .loop .height)
+    → Turn (start c .args .last) (length (start c .args .stack .now)) (start c .args .lefts .now)
+    (c .before .loop .code) (c .before .loop .height)
 turn c =
     let at-loop = c .before in
     let at-start = at-loop .before .before .before .before .before in

@@ -9,11 +9,11 @@ use Rattle.forest.proofs.leaves.read_off.Statement.{statement}
 use Rattle.forest.proofs.leaves.read_off.Tie as tie
 
 abbrev Inv-loop : tie.InvT-loop
-Inv-loop lefts rights stack₀ low b₀ a₀ end height₀ i₀ stack b a height i =
-    Reading lefts rights stack₀ low b₀ a₀ end stack b a height i
+Inv-loop last lefts rights stack₀ low b₀ a₀ end height₀ i₀ stack b a height i =
+    Reading last lefts rights stack₀ low b₀ a₀ end stack b a height i
 
 abbrev μ-loop : tie.MeasureT-loop
-μ-loop lefts rights stack₀ low b₀ a₀ end height₀ i₀ stack b a height i = end - i
+μ-loop last lefts rights stack₀ low b₀ a₀ end height₀ i₀ stack b a height i = end - i
 
 loop-holds : tie.Need-loop-holds Inv-loop μ-loop
 loop-holds c = reading-starts (c .before .before .before .before .before .pre)
@@ -97,8 +97,8 @@ loop-again c =
     let p = at-pop .pop in
     let d = at-descend .descend in
     let tip = d .result in
-    reading-more (at-loop .loop .inv) (p .result .bush) (p .result .height) (d .last .1 .1 .0) (tip .edges)
-    (tip .exponent) (tip .height) (omega arith) (d .kept .1 .1 .0) (p .ensures) (d .ensures)
+    reading-more (at-loop .loop .inv) (p .result .bush) (p .result .height) (d .last .1 .1 .1 .0) (tip .edges)
+    (tip .exponent) (tip .height) (omega arith) (d .kept .1 .1 .1 .0) (p .ensures) (d .ensures)
 
 same-length-4 : tie.Need-same-length-4 Inv-loop μ-loop
 same-length-4 c = c .before .loop .inv .stack-same

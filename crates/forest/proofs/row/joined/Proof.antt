@@ -24,7 +24,7 @@ returns c =
     let call = c .before .before .before .before .before in
     let test = call .before .before .before in
     as-letter (ap joinLetter (sym (test .if1 .taken)))
-    (joined-first _ _ _ _ _ _ _ _ _ _ (c .pop .ensures) (call .join .ensures))
+    (joined-first _ _ _ _ _ _ _ _ _ _ _ (c .pop .ensures) (call .join .ensures))
 
 pop-requires-2 : tie.Need-pop-requires-2
 pop-requires-2 c κs = search needs
@@ -43,7 +43,7 @@ returns-2 c =
     let call = c .before .before .before .before in
     let top = call .before .before .before in
     as-letter (letter-b _ (top .before .if1 .left))
-    (joined-second _ _ _ _ _ _ _ _ _ _ (top .pop2 .ensures) (call .join2 .ensures))
+    (joined-second _ _ _ _ _ _ _ _ _ _ _ (top .pop2 .ensures) (call .join2 .ensures))
 
 pub joined-spec : {M : Type 1} → statement M
 joined-spec =

@@ -21,7 +21,7 @@ returns c =
     let call = c .before .before .before in
     let test = call .before .before in
     as-letter (ap partLetter (sym (test .if1 .taken)))
-    (parted-first _ _ _ _ _ _ _ _ (call .push .ensures) (c .part .ensures))
+    (parted-first _ _ _ _ _ _ _ _ _ (call .push .ensures) (c .part .ensures))
 
 part-requires-2 : tie.Need-part-requires-2
 part-requires-2 c κs = search needs
@@ -38,7 +38,7 @@ returns-2 c =
     let parts = call .before .before in
     let test = parts .before in
     as-letter (letter-B _ (test .if1 .left))
-    (parted-second _ _ _ _ _ _ _ _ (call .push2 .ensures) (parts .part2 .ensures))
+    (parted-second _ _ _ _ _ _ _ _ _ (call .push2 .ensures) (parts .part2 .ensures))
 
 pub parted-spec : {M : Type 1} → statement M
 parted-spec =

@@ -1,0 +1,2 @@
+-- Laws of two words.
+pub mod Compared

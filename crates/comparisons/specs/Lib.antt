@@ -1,0 +1,4 @@
+-- Two words.
+pub mod Comparing
+-- what no claim reaches
+pub mod inside
