@@ -81,6 +81,7 @@ claims = record {
   texts-are-letters = Texts.texts-are-letters;
   list-is-calls = Lists.list-is-calls;
   some-calls = Lists.some-calls;
+  last-word-fills = Lists.last-word-fills;
   list-records-joined = Lists.list-records-joined;
   registers-are-read = Registers.registers-are-read;
   enters-words = EnterCalls.enters-words;

@@ -10,7 +10,7 @@ use Rattle.words.specs.Recording.{Memory, memory}
 use Rattle.wordlists.specs.Listing.{Listed}
 use Rattle.claims.proofs.Demands.{demand1}
 use Rattle.claims.proofs.Exports.{exports-answer-as-calls}
-use Rattle.claims.proofs.Lists.{list-is-calls}
+use Rattle.claims.proofs.Lists.{list-is-calls, last-word-fills}
 use Rattle.calls.specs.DemandedOfLists.{ListToRecords, DemandedOfLists}
 use Rattle.calls.proofs.Always.{always-below}
 use Rattle.calls.proofs.Calls.{calls, exports}
@@ -22,6 +22,7 @@ list-to-records {list} {m} {m′} {r} h =
       refuses = first .0;
       unaltered = first .1;
       gives = λ n e cs b′ a′ l f. list-is-calls list m m′ r n h e cs b′ a′ l f;
+      fills = λ n e i. last-word-fills list m m′ r n h e i;
     }
 
 pub demanded-of-lists : DemandedOfLists

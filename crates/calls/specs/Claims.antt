@@ -19,7 +19,7 @@ use Rattle.claims.specs.Lengths.{LengthIsLeast, LetterChangesByOne, SomeLetterL
 use Rattle.claims.specs.Lengths.{NoShorterWord, FewCarets, LabelsGiveLength, NarrowSum}
 use Rattle.claims.specs.Spellings.{DeletingEnds, FormsAreSpelled, SpellingHasLength}
 use Rattle.claims.specs.Texts.{DecimalsAreNumerals, TextsAreTokens, TextsAreLetters}
-use Rattle.claims.specs.Lists.{ListIsCalls, SomeCalls, ListRecordsJoined}
+use Rattle.claims.specs.Lists.{ListIsCalls, SomeCalls, LastWordFills, ListRecordsJoined}
 use Rattle.claims.specs.Registers.{RegistersAreRead, EntersWords, OnlyNewBytes, History, SameEntry, Charges}
 use Rattle.claims.specs.Receipts.{LinesOfBytes, LinesInParts, ServesMetLines, CutKeepsReceipt, ReceiptsOfInput}
 use Rattle.claims.specs.Worked.{Worked, WorkedForms, WorkedRegisters}
@@ -99,6 +99,7 @@ pub record Claims : Type 2 where
   -- Many words in one call: claims, Lists.
   pub list-is-calls : ListIsCalls
   pub some-calls : SomeCalls
+  pub last-word-fills : LastWordFills
   pub list-records-joined : ListRecordsJoined
   -- The register of first filings: claims, Registers.
   pub registers-are-read : RegistersAreRead

@@ -12,6 +12,7 @@
 --     LineCall, linesCalled   calls of `word_to_record`, and their lines         claims, Lists
 --     CallsFrom               such calls, the tables handed on                   claims, Lists
 --     SameAsCalls             the tables and the bytes are what they leave and give   claims, Lists
+--     EntryBehind             an entry of the tables is that of the last accepted word that reaches it   claims, Lists
 -- Assumes nothing.
 use mathlib.Core.Path.{_≡_}
 use mathlib.Core.List.{List}
@@ -22,7 +23,7 @@ use Rattle.refusals.specs.Outcomes.{Outcome, accepted, replyOf}
 use Rattle.words.specs.Recording.{Memory, memory}
 use Rattle.thompson.specs.Codes.{outcomeOf}
 use Rattle.claims.specs.Answers.{Refuses, IsRefused}
-use Rattle.claims.specs.Lists.{ListRefusal, LineCall, linesCalled, CallsFrom, SameAsCalls}
+use Rattle.claims.specs.Lists.{ListRefusal, LineCall, linesCalled, CallsFrom, SameAsCalls, EntryBehind}
 use Rattle.calls.specs.Always.{Always}
 use Rattle.wordlists.proofs.list_to_records as list-to-records
 use Rattle.thompson.proofs.thompson_list_to_records as thompson-list-to-records
@@ -33,6 +34,7 @@ pub record ListToRecords (list : List ℕ) (m m′ : Memory) (o : Outcome ℕ) :
   pub unaltered : IsRefused o → m′ ≡ m
   pub gives : (n : ℕ) → o ≡ accepted n → (cs : List LineCall) (b′ a′ : List ℕ) → linesCalled cs ≡ linesOf list
       → CallsFrom cs (m .b) (m .a) b′ a′ → SameAsCalls m m′ n cs b′ a′
+  pub fills : (n : ℕ) → o ≡ accepted n → (i : ℕ) → EntryBehind (linesOf list) m m′ i
 
 -- The function, then the export.
 pub record DemandedOfLists : Type 2 where

@@ -18,11 +18,8 @@ pub fn line_end(text: &[u8], start: usize) -> usize
     ensures { λ r. ⌜ r - start ≤ length (now (text .entry)) - start ⌝ }
     ensures { λ r. ⌜ length (now (text .entry)) - r ≤ length (now (text .entry)) - start - 1 ⌝ }
 {
-    let mut i = start;
-    while i < text.len() && text[i] != b'\n' {
-        i += 1;
-    }
-    if i < text.len() { i + 1 } else { i }
+    let end = lines::line_end(text, start);
+    if end < text.len() { end + 1 } else { end }
 }
 
 // The place of the first byte below `least` from a place on.

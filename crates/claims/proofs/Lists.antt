@@ -1,26 +1,33 @@
 -- The claims of specs/Lists.antt, proved. Assumes nothing.
-use mathlib.Core.Path.{_≡_, refl, sym, ap, _∙_}
+use mathlib.Core.Path.{_≡_, refl, sym, ap, subst, _∙_}
 use mathlib.Core.List.{List, _∷_, _++_, append-assoc}
-use Prim.Native.Nat.{ℕ, _<_, _≤_}
+use Prim.Native.Nat.{ℕ, _+_, _<_, _≤_}
 use native.Mathlib.Omega.{arith}
-use lib.ListN.{length, take, drop, take-append-drop}
+use lib.ListN.{length, take, drop, getD, take-append-drop}
 use lib.Seq.{sets, take-at, drop-at}
+use Rattle.lists.specs.Entries.{At}
 use Rattle.lists.proofs.Writes.{sets-front, sets-beyond}
 use Rattle.lines.specs.Lines.{linesOf}
+use Rattle.group.specs.Letters.{Word}
 use Rattle.group.specs.Bytes.{bytesOf}
-use Rattle.group.specs.Forms.{bSide, aSide}
+use Rattle.group.specs.Forms.{Side, bSide, aSide, exponent}
+use Rattle.group.specs.Products.{formOf}
 use Rattle.group.specs.Limits.{limit}
+use Rattle.group.proofs.Bytes.{word-read}
 use Rattle.refusals.specs.Outcomes.{Outcome, accepted, after, valued, replyOf}
 use Rattle.refusals.specs.declared.Reply.{Reply}
 use Rattle.refusals.proofs.Outcomes.{accepted-same, accepted-refused}
 use Rattle.letters.specs.Judging.{lineRead}
+use Rattle.letters.proofs.Judged.{accepted-fit}
 use Rattle.words.specs.Recording.{Memory}
 use Rattle.wordlists.specs.Items.{item, items, tablesThen}
 use Rattle.wordlists.specs.Listing.{listJudgedWith, tableBehind, itemsIn, Listed}
+use Rattle.wordlists.proofs.Lines.{read-bytes}
 use Rattle.wordlists.proofs.Items.{items-append, item-word}
-use Rattle.wordlists.proofs.Sizes.{items-size}
+use Rattle.wordlists.proofs.Sizes.{items-size, read-letters}
+use Rattle.wordlists.proofs.Tables.{NoneReach, tables-kept, tables-last}
 use Rattle.claims.specs.Calls.{MemoryCall}
-use Rattle.claims.specs.Lists.{itemAt, ListIsCalls, SomeCalls, ListRecordsJoined}
+use Rattle.claims.specs.Lists.{itemAt, ListIsCalls, SomeCalls, NoneReaches, LastWordFills, ListRecordsJoined}
 use Rattle.claims.proofs.TextRefusals.{b-full, a-full}
 use Rattle.claims.proofs.WordCalls.{records↔joined}
 use Rattle.claims.proofs.ListRefusals.{ListJudged, refuses, accepts, judge-list}
@@ -80,6 +87,32 @@ list-is-calls list m m′ r n h e cs b′ a′ same from =
 
 pub some-calls : SomeCalls
 some-calls = calls-exist
+
+-- Said of what the lines are read as: an accepted line is the bytes of its word, which is within the limit.
+none-reach : (i : ℕ) (ls : List (List ℕ)) → NoneReaches i ls → NoneReach i ls
+none-reach i ls none k l w at e =
+    let fit = accepted-fit l (length l + 1) (length l + 1) w e in
+    none k w (subst (At ls k) (word-read l w (fit .reads)) at) (omega (arith, fit .short, read-letters l w e))
+
+pub last-word-fills : LastWordFills
+last-word-fills list m m′ r n h e i = record {
+  last-word = λ before behind w same few reached none.
+      let last : (s : Side) (t t′ : List ℕ) → t′ ≡ tablesThen s (linesOf list) t
+      → getD t′ i 0 ≡ exponent s (formOf w) i =
+      (λ s t t′ so.
+      ap (λ (u : List ℕ). getD u i 0) (so ∙ ap (λ (ls : List (List ℕ)). tablesThen s ls t) same)
+      ∙ tables-last s i before behind (bytesOf w) w t (read-bytes w few) reached (none-reach i behind none)) in
+      (last bSide (m .b) (m′ .b) (written .b-table), last aSide (m .a) (m′ .a) (written .a-table));
+  no-word = λ none.
+      let kept : (s : Side) (t t′ : List ℕ) → t′ ≡ tablesThen s (linesOf list) t → getD t′ i 0 ≡ getD t i 0 =
+      (λ s t t′ so.
+      ap (λ (u : List ℕ). getD u i 0) so
+      ∙ tables-kept s i (linesOf list) t (none-reach i (linesOf list) none)) in
+      (kept bSide (m .b) (m′ .b) (written .b-table), kept aSide (m .a) (m′ .a) (written .a-table));
+}
+  where
+    written : ListWritten list m m′ n
+    written = list-written h e
 
 -- A part of bytes, at its place.
 part-at : (x y z rest out : List ℕ) → out ≡ (x ++ (y ++ z)) ++ rest → take (length y) (drop (length x) out) ≡ y

@@ -3,6 +3,7 @@
 --     ListRefusal          the conditions of 6 and 7, in their order
 --     ListIsCalls          the list call answers and leaves what one call a word does, one after another
 --     SomeCalls            such calls can always be made
+--     LastWordFills        an entry of the tables is that of the last accepted word that reaches it
 --     ListRecordsJoined    two words that stand in lists have equal items just when a chain joins them
 -- Letters: `list` bytes lent as a list; m, m′ tables and output lent with it, at entry and at exit; r its answer; c, cs
 -- calls of word to record; b, a, b′, a′ tables; w, x words.
@@ -19,18 +20,22 @@
 --     ShortTables m           a table with fewer entries than the limit and one           claims, Refusals
 --     MemoryCall R            an accepted call, by its contract R                         claims, Calls
 --     At cs i c               entry i of cs, counted from 0, is c                         lists, Entries
+--     exponent s f i          the exponent of x_i on a side of the form f                 group, Forms
+--     formOf w                the reduced form of a word                                  group, Products
 --     bytesOf w, Joined w x   the bytes of a word; a chain joins two words                group, Bytes, Chains
 -- Assumes nothing.
 use mathlib.Core.Path.{_≡_}
 use mathlib.Core.List.{List, [], _∷_, _++_}
 use mathlib.Core.Logic.{_⊎_, _↔_}
 use Prim.Native.Nat.{ℕ, _+_, _*_, _<_, _≤_}
-use lib.ListN.{length, take, drop}
+use lib.ListN.{length, take, drop, getD}
 use Rattle.lists.specs.Entries.{At}
 use Rattle.lines.specs.Lines.{linesOf, lineBytes}
 use Rattle.group.specs.Letters.{Word}
 use Rattle.group.specs.Bytes.{bytesOf}
 use Rattle.group.specs.Chains.{Joined}
+use Rattle.group.specs.Forms.{bSide, aSide, exponent}
+use Rattle.group.specs.Products.{formOf}
 use Rattle.group.specs.Limits.{limit}
 use Rattle.refusals.specs.Outcomes.{Outcome, accepted, refused, replyOf}
 use Rattle.refusals.specs.declared.Reply.{Reply}
@@ -112,6 +117,24 @@ abbrev pub SomeCalls : Type 0
 SomeCalls =
     (ls : List (List ℕ)) (b a : List ℕ)
     → (cs : List LineCall) × (b′ a′ : List ℕ) × (linesCalled cs ≡ ls) × CallsFrom cs b a b′ a′
+
+-- No accepted word of the lines has i letters or more.
+abbrev pub NoneReaches : ℕ → List (List ℕ) → Type 0
+NoneReaches i ls = (k : ℕ) (w : Word) → At ls k (bytesOf w) → length w ≤ limit → length w < i
+
+-- Entry i of both tables behind the lines: that of the last accepted word of at least i letters, or as it was where
+-- there is none.
+pub record EntryBehind (ls : List (List ℕ)) (m m′ : Memory) (i : ℕ) : Type 0 where
+  pub last-word : (before behind : List (List ℕ)) (w : Word) → ls ≡ before ++ (bytesOf w ∷ behind)
+      → length w ≤ limit → i ≤ length w → NoneReaches i behind
+      → (getD (m′ .b) i 0 ≡ exponent bSide (formOf w) i) × (getD (m′ .a) i 0 ≡ exponent aSide (formOf w) i)
+  pub no-word : NoneReaches i ls → (getD (m′ .b) i 0 ≡ getD (m .b) i 0) × (getD (m′ .a) i 0 ≡ getD (m .a) i 0)
+
+-- The same of every accepted list call and every entry.
+abbrev pub LastWordFills : Type 0
+LastWordFills =
+    (list : List ℕ) (m m′ : Memory) (r : Reply) (n : ℕ) → Listed list m m′ r → replyOf r ≡ accepted n
+    → (i : ℕ) → EntryBehind (linesOf list) m m′ i
 
 -- The bytes at the place of the item of a line l that stands behind other lines.
 abbrev pub itemAt : (before : List (List ℕ)) (l out : List ℕ) → List ℕ

@@ -5,29 +5,28 @@ use crate::tables::TABLE;
 use cases::parts;
 use cases::parts::BYTE;
 use cases::parts::ENTRY;
-use refusals::Refusal;
-use refusals::Reply;
+use thompson::Answer;
 
 // The bytes of a record buffer for a word of full length.
 const RECORD: usize = 16390;
 
 // The item of a refused word.
-fn put_refusal(out: &mut [u8], at: usize, r: Refusal) -> usize {
-    let place = refusals::place(r);
-    let high = (place / 256 % 256) as u8;
-    let low = (place % 256) as u8;
-    parts::put_all(out, at, &[0x0F, 0, 3, refusals::number(r), high, low])
+fn put_refusal(out: &mut [u8], at: usize, refused: Answer) -> usize {
+    let number = (refused.refusal % 256) as u8;
+    let high = (refused.value / 256 % 256) as u8;
+    let low = (refused.value % 256) as u8;
+    parts::put_all(out, at, &[0x0F, 0, 3, number, high, low])
 }
 
 // The item of a word, whose record is made in a buffer of its own.
 fn put_item(word: &[u8], b: &mut [u16], a: &mut [u16], out: &mut [u8], at: usize) -> usize {
     let mut record = [BYTE; RECORD];
     let lent = parts::front_mut(&mut record, word.len() % RECORD * 4 + 6);
-    let reply = words::word_to_record(word, b, a, lent);
-    if let Reply::Refused(r) = reply {
-        return put_refusal(out, at, r);
+    let answer = thompson::thompson_word_to_record(word, b, a, lent);
+    if answer.refusal != 0 {
+        return put_refusal(out, at, answer);
     }
-    parts::put_all(out, at, parts::front(&record, refusals::count_of(reply)))
+    parts::put_all(out, at, parts::front(&record, answer.value as usize))
 }
 
 // The items of all lines. The number of bytes written.

@@ -9,7 +9,7 @@ use cases::fields::field;
 use cases::parts;
 use cases::parts::BYTE;
 use cases::parts::ENTRY;
-use refusals::Reply;
+use thompson::Answer;
 
 // The most bytes of an output.
 pub const OUTPUT: usize = 49400;
@@ -20,21 +20,18 @@ pub fn accepted(line: &[u8]) -> bool {
 }
 
 // The call, with so much of the memory lent.
-fn call(list: &[u8], s: Sizes, b: &mut [u16], a: &mut [u16], out: &mut [u8]) -> Reply {
+fn call(list: &[u8], s: Sizes, b: &mut [u16], a: &mut [u16], out: &mut [u8]) -> Answer {
     let b_table = parts::entries_mut(b, s.b);
     let a_table = parts::entries_mut(a, s.a);
-    wordlists::list_to_records(list, b_table, a_table, parts::front_mut(out, s.out))
+    thompson::thompson_list_to_records(list, b_table, a_table, parts::front_mut(out, s.out))
 }
 
-// Whether an answer is the one told.
-fn answered(line: &[u8], reply: Reply) -> bool {
-    let ok = accepted(line);
-    match reply {
-        Reply::Number(n) => ok && n == field(line, 7).len() / 2,
-        Reply::Refused(r) => !ok
-            && refusals::number(r) as u64 == fields::number(field(line, 7))
-            && refusals::place(r) as u64 == fields::number(field(line, 8)),
+// Whether an answer is the one told: no refusal and as many bytes, or number and place.
+fn answered(line: &[u8], answer: Answer) -> bool {
+    if accepted(line) {
+        return answer.refusal == 0 && answer.value == (field(line, 7).len() / 2) as u64;
     }
+    answer.refusal == fields::number(field(line, 7)) && answer.value == fields::number(field(line, 8))
 }
 
 // A row that tells bytes and tables; nothing of a refusal, where all is as it was.
@@ -57,12 +54,12 @@ pub fn right(line: &[u8], list: &[u8], each_word: bool) -> bool {
     let mut b = [ENTRY; TABLE];
     let mut a = [ENTRY; TABLE];
     let mut out = [BYTE; OUTPUT];
-    let reply = call(list, fields::lent(line), &mut b, &mut a, &mut out);
-    if !answered(line, reply) {
+    let answer = call(list, fields::lent(line), &mut b, &mut a, &mut out);
+    if !answered(line, answer) {
         return false;
     }
     if each_word {
-        return by_word::same(list, refusals::count_of(reply), &b, &a, &out);
+        return by_word::same(list, answer.value as usize, &b, &a, &out);
     }
     left(told(line), &b, &a, &out)
 }
