@@ -31,7 +31,8 @@ fn answered(line: &[u8], answer: Answer) -> bool {
     if accepted(line) {
         return answer.refusal == 0 && answer.value == (field(line, 7).len() / 2) as u64;
     }
-    answer.refusal == fields::number(field(line, 7)) && answer.value == fields::number(field(line, 8))
+    answer.refusal == fields::number(field(line, 7))
+        && answer.value == fields::number(field(line, 8))
 }
 
 // A row that tells bytes and tables; nothing of a refusal, where all is as it was.
