@@ -94,25 +94,31 @@ none-reach i ls none k l w at e =
     let fit = accepted-fit l (length l + 1) (length l + 1) w e in
     none k w (subst (At ls k) (word-read l w (fit .reads)) at) (omega (arith, fit .short, read-letters l w e))
 
+-- A table behind the lines: the last word that reaches entry i gives it, and lines that do not reach it leave it.
+module _ (s : Side) (ls : List (List ℕ)) (t : List ℕ) {t′ : List ℕ} (so : t′ ≡ tablesThen s ls t) (i : ℕ) where
+  entry-last : (before behind : List (List ℕ)) (w : Word) → ls ≡ before ++ (bytesOf w ∷ behind) → length w ≤ limit
+      → i ≤ length w → NoneReaches i behind → getD t′ i 0 ≡ exponent s (formOf w) i
+  entry-last before behind w same few reached none =
+      ap (λ (u : List ℕ). getD u i 0) (so ∙ ap (λ (ks : List (List ℕ)). tablesThen s ks t) same)
+      ∙ tables-last s i before behind (bytesOf w) w t (read-bytes w few) reached (none-reach i behind none)
+
+  entry-kept : NoneReaches i ls → getD t′ i 0 ≡ getD t i 0
+  entry-kept none = ap (λ (u : List ℕ). getD u i 0) so ∙ tables-kept s i ls t (none-reach i ls none)
+
 pub last-word-fills : LastWordFills
-last-word-fills list m m′ r n h e i = record {
-  last-word = λ before behind w same few reached none.
-      let last : (s : Side) (t t′ : List ℕ) → t′ ≡ tablesThen s (linesOf list) t
-      → getD t′ i 0 ≡ exponent s (formOf w) i =
-      (λ s t t′ so.
-      ap (λ (u : List ℕ). getD u i 0) (so ∙ ap (λ (ls : List (List ℕ)). tablesThen s ls t) same)
-      ∙ tables-last s i before behind (bytesOf w) w t (read-bytes w few) reached (none-reach i behind none)) in
-      (last bSide (m .b) (m′ .b) (written .b-table), last aSide (m .a) (m′ .a) (written .a-table));
-  no-word = λ none.
-      let kept : (s : Side) (t t′ : List ℕ) → t′ ≡ tablesThen s (linesOf list) t → getD t′ i 0 ≡ getD t i 0 =
-      (λ s t t′ so.
-      ap (λ (u : List ℕ). getD u i 0) so
-      ∙ tables-kept s i (linesOf list) t (none-reach i (linesOf list) none)) in
-      (kept bSide (m .b) (m′ .b) (written .b-table), kept aSide (m .a) (m′ .a) (written .a-table));
-}
-  where
-    written : ListWritten list m m′ n
-    written = list-written h e
+last-word-fills list m m′ r n h e i =
+    let w = list-written h e in
+    let ls = linesOf list in
+    record {
+      last-word = λ before behind x same few reached none. (
+        entry-last bSide ls (m .b) (w .b-table) i before behind x same few reached none,
+        entry-last aSide ls (m .a) (w .a-table) i before behind x same few reached none,
+      );
+      no-word = λ none. (
+        entry-kept bSide ls (m .b) (w .b-table) i none,
+        entry-kept aSide ls (m .a) (w .a-table) i none,
+      );
+    }
 
 -- A part of bytes, at its place.
 part-at : (x y z rest out : List ℕ) → out ≡ (x ++ (y ++ z)) ++ rest → take (length y) (drop (length x) out) ≡ y
