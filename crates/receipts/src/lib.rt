@@ -67,37 +67,18 @@ fn is_enough(out: usize, part: usize) -> bool
     part <= (out - 8 * LINE) / (SHORT_RECEIPT + 8)
 }
 
-// The receipt of a line, at a place of a buffer that has room for it; the line is worked out in the other arrays.
-fn put_at(
-    number: u64,
-    line: &[u8],
-    out: &mut [u8],
-    at: usize,
-    b: &mut [u16; TABLE],
-    a: &mut [u16; TABLE],
-    record: &mut [u8; RECORD],
-    lefts: &mut [u16; CELLS],
-    rights: &mut [u16; CELLS],
-    stack: &mut [u16; ROOM],
-) -> usize
-    requires { ⌜ at + receiptSize (length (now line)) ≤ length (now out) ⌝ }
-    ensures { λ r. ⌜ Wrote (receiptOf number (now (line .entry))) (now (out .entry)) at (now (out .exit)) r ⌝ }
+// The bytes of a line that are held at the front of a buffer, or all of it.
+fn held_bytes(line: &[u8], held: usize) -> &[u8]
+    ensures { λ r. ⌜ now r ≡ take held (now (line .entry)) ⌝ }
 {
-    let reply = rows::put_receipt(
-        number,
-        line,
-        &mut out[at..],
-        b,
-        a,
-        record,
-        lefts,
-        rights,
-        stack,
-    );
-    at + refusals::count_of(reply)
+    if held < line.len() {
+        return &line[..held];
+    }
+    line
 }
 
-// The receipt of the bytes of a line that are held in a buffer, in the same way.
+// The receipt of the bytes of a line that are held, at a place of a buffer that has room for it; the line is worked out
+// in the other arrays.
 fn put_held(
     number: u64,
     line: &[u8],
@@ -115,21 +96,18 @@ fn put_held(
     ensures { λ r. ⌜ Wrote (receiptOf number (take held (now (line .entry)))) (now (out .entry)) at
         (now (out .exit)) r ⌝ }
 {
-    if held < line.len() {
-        return put_at(
-            number,
-            &line[..held],
-            out,
-            at,
-            b,
-            a,
-            record,
-            lefts,
-            rights,
-            stack,
-        );
-    }
-    put_at(number, line, out, at, b, a, record, lefts, rights, stack)
+    let reply = rows::put_receipt(
+        number,
+        held_bytes(line, held),
+        &mut out[at..],
+        b,
+        a,
+        record,
+        lefts,
+        rights,
+        stack,
+    );
+    at + refusals::count_of(reply)
 }
 
 // The receipts of the lines that end in a part, at the front of a buffer; the lines are worked out in the other arrays,

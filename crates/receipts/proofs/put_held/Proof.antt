@@ -1,54 +1,88 @@
--- `put_held` meets its contract: the bytes that are held are a part of the buffer, or all of it. Assumes nothing.
-use mathlib.Core.Path.{sym, ap}
+-- `put_held` meets its contract: what the lent part gets is written at the place. Assumes nothing.
+use mathlib.Core.Path.{ap}
 use mathlib.Core.List.{List}
-use Prim.Native.Nat.{ℕ}
+use Prim.Native.Nat.{ℕ, _+_, _≤_}
 use native.Mathlib.Omega.{arith}
 use lib.ListN.{length}
-use lib.Seq.{take-all, length-take-le}
 use borrow.Author.Needs.{needs}
 use Rattle.lists.proofs.Writes.{wrote-same}
-use Rattle.rows.specs.Receipts.{receiptOf}
+use Rattle.rows.specs.Receipts.{receiptOf, receiptSize}
+use Rattle.rows.proofs.Sizes.{receipt-length}
+use Rattle.receipts.proofs.Placing.{part-wrote, part-count}
 use Rattle.receipts.proofs.put_held.Statement.{statement}
 use Rattle.receipts.proofs.put_held.Tie as tie
 
-slice-aggregate-put-at : tie.Need-slice-aggregate-put-at
-slice-aggregate-put-at c = sym (length-take-le _ _ (omega arith))
+-- The entry, seen from where the bytes that are held were taken, those bytes, and that there is room for their receipt.
+abbrev start : tie.After-held-bytes → tie.Start
+start c = c .before .before .before
 
-put-at-requires : tie.Need-put-at-requires
-put-at-requires c κs = search needs
+abbrev kept : tie.After-held-bytes → List ℕ
+kept c = c .held-bytes .result .now
+
+room : (c : tie.After-held-bytes) → start c .args .at + receiptSize (length (kept c)) ≤ length (start c .args .out .now)
+room c = omega (arith, start c .pre, ap length (c .held-bytes .ensures))
+
+-- Where they were taken, seen from where the receipt was put.
+abbrev taken : tie.After-put-receipt → tie.After-held-bytes
+taken c =
+    let at-arg2 = c .before .before .before .before .before .before in
+    at-arg2 .before .before
+
+held-bytes-requires : tie.Need-held-bytes-requires
+held-bytes-requires c κs = search needs
+
+sub-put-receipt : tie.Need-sub-put-receipt
+sub-put-receipt c = search needs
+
+part-put-receipt-start : tie.Need-part-put-receipt-start
+part-put-receipt-start c = search needs
+
+part-put-receipt-end : tie.Need-part-put-receipt-end
+part-put-receipt-end c = search needs
+
+put-receipt-requires : tie.Need-put-receipt-requires
+put-receipt-requires c κs = search needs
+
+count-of-requires : tie.Need-count-of-requires
+count-of-requires c κs = search needs
+
+add-result : tie.Need-add-result
+add-result c =
+    let put = c .before .before .before in
+    let held = taken put in
+    let entry = start held in
+    let args = entry .args in
+    omega (
+      arith,
+      part-count (args .at) (receiptOf (args .number) (kept held)) (args .out .now) (receiptSize (length (kept held)))
+          (put .put-receipt .result) (c .count-of .result) (room held) (c .count-of .ensures)
+          (put .put-receipt .ensures),
+      receipt-length (args .number) (kept held) (entry .fits .number .fits),
+      room held,
+    )
 
 same-length : tie.Need-same-length
 same-length c = search needs
 
 returns : tie.Need-returns
-returns c = search needs
-
-put-at-requires-2 : tie.Need-put-at-requires-2
-put-at-requires-2 c κs =
-    let at-arg9 = c .before .before .before .before .before .before in
-    let entry = at-arg9 .before .before .before .before in
-    omega (arith, entry .pre, ap length (take-all (entry .args .held) (entry .args .line .now) (omega arith)))
-
-same-length-2 : tie.Need-same-length-2
-same-length-2 c = search needs
-
-returns-2 : tie.Need-returns-2
-returns-2 c =
-    let put = c .before .before in
-    let at-arg10 = put .before .before .before .before .before .before in
-    let x = at-arg10 .before .before .before .before .before .args in
-    wrote-same
-    (ap (λ (s : List ℕ). receiptOf (x .number) s) (sym (take-all (x .held) (x .line .now) (omega arith))))
-    (put .put-at2 .ensures)
+returns c =
+    let put = c .before .before .before in
+    let held = taken put in
+    let args = start held .args in
+    wrote-same (ap (receiptOf (args .number)) (held .held-bytes .ensures))
+    (part-wrote (args .at) (receiptOf (args .number) (kept held)) (args .out .now) (receiptSize (length (kept held)))
+    (put .put-receipt .result) (c .count-of .result) (room held) (c .count-of .ensures) (put .put-receipt .ensures))
 
 pub put-held-spec : {M : Type 1} → statement M
 put-held-spec =
     tie.close
     (tie.spec
-    slice-aggregate-put-at
-    put-at-requires
+    held-bytes-requires
+    sub-put-receipt
+    part-put-receipt-start
+    part-put-receipt-end
+    put-receipt-requires
+    count-of-requires
+    add-result
     same-length
-    returns
-    put-at-requires-2
-    same-length-2
-    returns-2)
+    returns)
