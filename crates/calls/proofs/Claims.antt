@@ -17,7 +17,7 @@ use Rattle.claims.proofs.Lists as Lists
 use Rattle.claims.proofs.Registers as Registers
 use Rattle.claims.proofs.EnterCalls as EnterCalls
 use Rattle.claims.proofs.Receipts as Receipts
-use Rattle.claims.proofs.Worked as Worked
+use Rattle.worked.proofs.Worked as Worked
 
 pub claims : Claims
 claims = record {

@@ -22,7 +22,7 @@ use Rattle.claims.specs.Texts.{DecimalsAreNumerals, TextsAreTokens, TextsAreLet
 use Rattle.claims.specs.Lists.{ListIsCalls, SomeCalls, LastWordFills, ListRecordsJoined}
 use Rattle.claims.specs.Registers.{RegistersAreRead, EntersWords, OnlyNewBytes, History, SameEntry, Charges}
 use Rattle.claims.specs.Receipts.{LinesOfBytes, LinesInParts, ServesMetLines, CutKeepsReceipt, ReceiptsOfInput}
-use Rattle.claims.specs.Worked.{Worked, WorkedForms, WorkedRegisters}
+use Rattle.worked.specs.Worked.{Worked, WorkedForms, WorkedRegisters}
 
 pub record Claims : Type 2 where
   -- The demands, said of the functions and of the exports: calls, Demanded.
@@ -114,7 +114,7 @@ pub record Claims : Type 2 where
   pub serves-met-lines : ServesMetLines
   pub cut-keeps-receipt : CutKeepsReceipt
   pub receipts-of-input : ReceiptsOfInput
-  -- Worked examples: claims, Worked.
+  -- Worked examples: worked, Worked.
   pub worked : Worked
   pub worked-forms : WorkedForms
   pub worked-registers : WorkedRegisters

@@ -28,4 +28,3 @@ pub mod Receipts
 pub mod Registers
 pub mod Lists
 pub mod Sentences
-pub mod Worked

@@ -16,7 +16,6 @@ use Rattle.group.proofs.Sizes.{form-sum}
 use Rattle.refusals.specs.Outcomes.{Outcome, accepted, refused, replyOf}
 use Rattle.refusals.specs.declared.Reply.{Reply}
 use Rattle.refusals.proofs.Outcomes.{accepted-refused}
-use Rattle.records.specs.Reading.{decode}
 use Rattle.records.proofs.WordForms.{form-within}
 use Rattle.records.proofs.Lengths.{encode-size}
 use Rattle.forest.specs.Filling.{tableAfter}
@@ -25,7 +24,7 @@ use Rattle.words.specs.inside.Writing.{WordWritten}
 use Rattle.words.proofs.Judged.{accepted-record}
 use Rattle.words.proofs.Written.{front-record}
 use Rattle.claims.specs.Given.{RecordOfWord}
-use Rattle.claims.proofs.Written.{record-written, Listed, listed↔joined, listed-form}
+use Rattle.claims.proofs.Written.{record-written, Listed, listed↔joined}
 use Rattle.claims.proofs.Refusals.{Judged, refuses, accepts, judge-word, judged-accepted}
 
 -- Nothing is altered where the outcome is a refusal.
@@ -83,10 +82,6 @@ call-front {u} {m} {m′} {r} {n} {w} h e b = go (judge-word u m)
         let so = judged-accepted u m w c b in
         let front = front-record u m m′ n (record { letters = w; judged-so = so }) written in
         record { judged-so = so; count = front .0; front = front .1 }
-
--- The record of a word within the limit is read as the form of the word.
-pub read-record : (w : Word) → length w ≤ limit → decode (encodeWord w) ≡ accepted (formOf w)
-read-record w short = listed-form w (record { is = refl; within = form-within w short })
 
 -- The record that an accepted call writes.
 pub word-listed : {u : List ℕ} {m m′ : Memory} {r : Reply} {n : ℕ} (w : Word) → Recorded u m m′ r

@@ -30,6 +30,8 @@ use Rattle.records.specs.Reading.{reducedForm, decode}
 use Rattle.clause.specs.Clause.{findBreak}
 use Rattle.records.specs.Faults.{formRead}
 use Rattle.records.proofs.ReadBack.{form-encode}
+use Rattle.records.proofs.Accepted.{decode-encode}
+use Rattle.records.proofs.WordForms.{form-within}
 use Rattle.trees.specs.Pairs.{caretsOf}
 use Rattle.lengths.specs.Weights.{formLength}
 use Rattle.spelling.specs.Spelling.{spelling}
@@ -44,10 +46,9 @@ use Rattle.registers.specs.Reading.{readEntries, readRegister, numberFor}
 use Rattle.registers.proofs.ReadBack.{register-front}
 use Rattle.updates.specs.Entering.{newEntry, present, storedForm, Found, answered, registerAfter}
 use Rattle.updates.proofs.StoredForms.{stored-read}
-use Rattle.claims.specs.Worked.{unreduced, unreducedRecord, deadEnd, deadEndRecord, Measures, IsSpelled}
-use Rattle.claims.specs.Worked.{IsPhrased, IsEntered, fresh26, fresh33, filedA, filedBAbab}
-use Rattle.claims.specs.Worked.{Worked, WorkedForms, WorkedRegisters}
-use Rattle.claims.proofs.WordCalls.{read-record}
+use Rattle.worked.specs.Worked.{unreduced, unreducedRecord, deadEnd, deadEndRecord, Measures, IsSpelled}
+use Rattle.worked.specs.Worked.{IsPhrased, IsEntered, fresh26, fresh33, filedA, filedBAbab}
+use Rattle.worked.specs.Worked.{Worked, WorkedForms, WorkedRegisters}
 
 -- The clause is broken at index 0.
 applies-0 : Applies 0 unreduced
@@ -85,7 +86,11 @@ unreduced-map : SameMap (letters unreduced) ('b ∷ [])
 unreduced-map =
     joined-map (letters unreduced) ('b ∷ []) (≈→joined (free eight-pairs (letters unreduced) ('b ∷ []) refl))
 
--- The record of a word is read; N and the length are computed from the word's form.
+-- The record of a word within the limit is read as the form of the word.
+read-record : (w : Word) → length w ≤ limit → decode (encodeWord w) ≡ accepted (formOf w)
+read-record w short = decode-encode (formOf w) (form-canonical w) (form-within w short)
+
+-- N and the length of the record are computed from the word's form.
 measured : (w : Word) (n l : ℕ) → length w ≤ limit → caretsOf (formOf w) ≡ n → formLength (formOf w) ≡ l
     → Measures (encodeWord w) n l
 measured w n l short en el =

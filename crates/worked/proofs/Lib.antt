@@ -1,0 +1,2 @@
+-- The proofs of the worked examples.
+pub mod Worked

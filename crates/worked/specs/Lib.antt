@@ -1,0 +1,2 @@
+-- The worked examples of the papers.
+pub mod Worked
