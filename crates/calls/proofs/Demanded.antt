@@ -15,12 +15,13 @@ use Rattle.group.proofs.Theorems.{form-map, the-form}
 use Rattle.refusals.specs.Outcomes.{Outcome, accepted, verdictOf, replyOf}
 use Rattle.refusals.specs.declared.Verdict.{Verdict}
 use Rattle.refusals.specs.declared.Reply.{Reply}
+use Rattle.refusals.specs.Memory.{Memory, memory}
 use Rattle.records.specs.Format.{Within}
 use Rattle.records.specs.Checking.{Checked}
 use Rattle.records.proofs.WordForms.{form-within}
 use Rattle.tokens.specs.Texts.{textOf}
 use Rattle.notation.specs.Contracts.{TextRecorded, TextWritten}
-use Rattle.words.specs.Recording.{Memory, memory, encodeWord, Recorded}
+use Rattle.words.specs.Recording.{encodeWord, Recorded}
 use Rattle.comparisons.specs.Comparing.{Decision, decisionOf, Compared}
 use Rattle.comparisons.specs.declared.Comparison.{Comparison}
 use Rattle.pairs.specs.Contracts.{Paired, Measured}

@@ -6,7 +6,7 @@ use Prim.Native.Nat.{ℕ}
 use denote.Ref.{now}
 use Rattle.refusals.specs.Outcomes.{Outcome, replyOf}
 use Rattle.refusals.specs.declared.Reply.{Reply}
-use Rattle.words.specs.Recording.{Memory, memory}
+use Rattle.refusals.specs.Memory.{Memory, memory}
 use Rattle.wordlists.specs.Listing.{Listed}
 use Rattle.claims.proofs.Demands.{demand1}
 use Rattle.claims.proofs.Exports.{exports-answer-as-calls}

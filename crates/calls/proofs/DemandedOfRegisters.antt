@@ -8,9 +8,9 @@ use native.Mathlib.Omega.{arith}
 use denote.Ref.{now}
 use Rattle.refusals.specs.Outcomes.{Outcome, accepted, refused, valued, then, verdictOf}
 use Rattle.refusals.specs.declared.Verdict.{Verdict}
+use Rattle.refusals.specs.Memory.{Memory, memory}
 use Rattle.refusals.proofs.Outcomes.{accepted-refused, accepted-when}
 use Rattle.registers.proofs.WellFormed.{reads-well-formed}
-use Rattle.words.specs.Recording.{Memory, memory}
 use Rattle.registers.specs.Format.{Register}
 use Rattle.registers.specs.Reading.{live, readRegister}
 use Rattle.registers.specs.Answers.{RegisterChecked}

@@ -8,8 +8,9 @@
 use mathlib.Core.Path.{_≡_}
 use denote.Ref.{now}
 use Rattle.refusals.specs.Outcomes.{verdictOf, replyOf}
+use Rattle.refusals.specs.Memory.{memory}
 use Rattle.records.specs.Checking.{Checked}
-use Rattle.words.specs.Recording.{memory, Recorded}
+use Rattle.words.specs.Recording.{Recorded}
 use Rattle.comparisons.specs.Comparing.{Compared, decisionOf}
 use Rattle.wordlists.specs.Listing.{Listed}
 use Rattle.pairs.specs.Contracts.{Paired, Measured}

@@ -42,10 +42,10 @@ use Rattle.group.specs.Reducing.{Reduced}
 use Rattle.group.specs.Powers.{SignedPower, productLetters}
 use Rattle.group.specs.Limits.{limit}
 use Rattle.refusals.specs.Outcomes.{Outcome, accepted, verdictOf, replyOf}
+use Rattle.refusals.specs.Memory.{Memory, memory}
 use Rattle.records.specs.Format.{IsRecord, Within}
 use Rattle.tokens.specs.Tokens.{AllInRange}
 use Rattle.tokens.specs.Texts.{textOf}
-use Rattle.words.specs.Recording.{Memory, memory}
 use Rattle.comparisons.specs.Comparing.{Decision, decisionOf}
 use Rattle.thompson.specs.Codes.{outcomeOf, decisionIn}
 use Rattle.claims.specs.Answers.{Refuses, IsRefused, IsAccepted, RefusesWords, WordRefused, Answered, None}

@@ -20,7 +20,7 @@ use Prim.Native.Nat.{ℕ}
 use denote.Ref.{now}
 use Rattle.lines.specs.Lines.{linesOf}
 use Rattle.refusals.specs.Outcomes.{Outcome, accepted, replyOf}
-use Rattle.words.specs.Recording.{Memory, memory}
+use Rattle.refusals.specs.Memory.{Memory, memory}
 use Rattle.thompson.specs.Codes.{outcomeOf}
 use Rattle.claims.specs.Answers.{Refuses, IsRefused}
 use Rattle.claims.specs.Lists.{ListRefusal, LineCall, linesCalled, CallsFrom, SameAsCalls, EntryBehind}

@@ -22,8 +22,8 @@ use lib.ListN.{length}
 use Rattle.group.specs.Letters.{Word}
 use Rattle.group.specs.Bytes.{bytesOf}
 use Rattle.refusals.specs.Outcomes.{Outcome, accepted, valued, verdictOf}
+use Rattle.refusals.specs.Memory.{Memory, memory}
 use Rattle.records.specs.Format.{encode}
-use Rattle.words.specs.Recording.{Memory, memory}
 use Rattle.registers.specs.Format.{Register, registerBytes}
 use Rattle.registers.specs.Reading.{live}
 use Rattle.registers.specs.WellFormed.{WellFormed}

@@ -11,11 +11,12 @@ use Rattle.group.specs.Forms.{Form}
 use Rattle.refusals.specs.Outcomes.{replyOf, verdictOf}
 use Rattle.refusals.specs.declared.Verdict.{Verdict}
 use Rattle.refusals.specs.declared.Reply.{Reply}
+use Rattle.refusals.specs.Memory.{Memory}
 use Rattle.records.specs.Format.{IsRecord}
 use Rattle.records.specs.Reading.{decode}
 use Rattle.records.specs.Checking.{Checked}
 use Rattle.lengths.specs.Weights.{formLength}
-use Rattle.words.specs.Recording.{Memory, encodeWord, judgedWith, Recorded}
+use Rattle.words.specs.Recording.{encodeWord, judgedWith, Recorded}
 use Rattle.comparisons.specs.Comparing.{decisionOf, same, different}
 use Rattle.registers.specs.Reading.{readRegister}
 use Rattle.tokens.proofs.Texts.{text-injective}

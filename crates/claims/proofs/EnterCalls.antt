@@ -10,10 +10,11 @@ use Rattle.group.specs.Letters.{Word}
 use Rattle.group.specs.Bytes.{bytesOf}
 use Rattle.refusals.specs.Outcomes.{Outcome, accepted, refused, valued}
 use Rattle.refusals.specs.declared.Reply.the-variants.{Number}
+use Rattle.refusals.specs.Memory.{Memory}
 use Rattle.refusals.proofs.Outcomes.{accepted-same, accepted-refused}
 use Rattle.fields.specs.Fields.{headSize}
 use Rattle.records.specs.Format.{encode}
-use Rattle.words.specs.Recording.{Memory, judgedWith, encodeWord, countRecord, Left, Recorded}
+use Rattle.words.specs.Recording.{judgedWith, encodeWord, countRecord, Left, Recorded}
 use Rattle.words.specs.Recording.{beside}
 use Rattle.registers.specs.Format.{Register, entryBase, registerBytes, liveMost}
 use Rattle.registers.specs.Reading.{live}

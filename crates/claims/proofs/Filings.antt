@@ -14,10 +14,11 @@ use Rattle.group.specs.Letters.{Word}
 use Rattle.group.specs.Bytes.{bytesOf}
 use Rattle.group.specs.Limits.{limit}
 use Rattle.refusals.specs.Outcomes.{Outcome, accepted, refused, then}
+use Rattle.refusals.specs.Memory.{Memory}
 use Rattle.refusals.proofs.Outcomes.{accepted-refused, refused-number, refused-place}
 use Rattle.fields.specs.Fields.{Bytes, headSize}
 use Rattle.records.specs.Format.{encode}
-use Rattle.words.specs.Recording.{Memory, judgedWith}
+use Rattle.words.specs.Recording.{judgedWith}
 use Rattle.registers.specs.Format.{Register, entryBase, registerBytes, numberMost, liveMost}
 use Rattle.registers.specs.Reading.{live, numberFor, readRegister}
 use Rattle.registers.specs.WellFormed.{WellFormed}

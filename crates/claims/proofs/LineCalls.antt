@@ -17,11 +17,12 @@ use Rattle.refusals.specs.declared.Reply.the-variants.{Number, Refused}
 use Rattle.refusals.specs.declared.Refusal.{Refusal}
 use Rattle.refusals.specs.declared.Refusal.the-variants.{TooManyLetters, NotLetter, ShortTable, ShortBuffer}
 use Rattle.refusals.specs.Refusals.{numberOf, placeOf}
+use Rattle.refusals.specs.Memory.{Memory, memory}
 use Rattle.refusals.proofs.Outcomes.{valued-refused}
 use Rattle.records.specs.Format.{bufferSize}
 use Rattle.letters.specs.Judging.{lineRead}
 use Rattle.forest.specs.Filling.{tableAfter}
-use Rattle.words.specs.Recording.{Memory, memory, judgedWith, encodeWord, countRecord, bufferAfter}
+use Rattle.words.specs.Recording.{judgedWith, encodeWord, countRecord, bufferAfter}
 use Rattle.wordlists.specs.Items.{item, items, tablesThen}
 use Rattle.wordlists.proofs.Lines.{judged-line, read-refused}
 use Rattle.wordlists.proofs.Sizes.{item-size}

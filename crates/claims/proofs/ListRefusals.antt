@@ -16,8 +16,8 @@ use Rattle.group.specs.Forms.{bSide, aSide}
 use Rattle.group.specs.Limits.{limit}
 use Rattle.refusals.specs.Outcomes.{Outcome, accepted, refused, after, replyOf}
 use Rattle.refusals.specs.declared.Reply.{Reply}
+use Rattle.refusals.specs.Memory.{Memory, memory}
 use Rattle.refusals.proofs.Outcomes.{accepted-refused, refused-number, refused-place}
-use Rattle.words.specs.Recording.{Memory, memory}
 use Rattle.wordlists.specs.Items.{listSize}
 use Rattle.wordlists.specs.Listing.{listJudgedWith, tableBehind, itemsIn, Listed}
 use Rattle.wordlists.proofs.Sizes.{list-size}

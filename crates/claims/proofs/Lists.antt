@@ -16,10 +16,10 @@ use Rattle.group.specs.Limits.{limit}
 use Rattle.group.proofs.Bytes.{word-read}
 use Rattle.refusals.specs.Outcomes.{Outcome, accepted, after, valued, replyOf}
 use Rattle.refusals.specs.declared.Reply.{Reply}
+use Rattle.refusals.specs.Memory.{Memory}
 use Rattle.refusals.proofs.Outcomes.{accepted-same, accepted-refused}
 use Rattle.letters.specs.Judging.{lineRead}
 use Rattle.letters.proofs.Judged.{accepted-fit}
-use Rattle.words.specs.Recording.{Memory}
 use Rattle.wordlists.specs.Items.{item, items, tablesThen}
 use Rattle.wordlists.specs.Listing.{listJudgedWith, tableBehind, itemsIn, Listed}
 use Rattle.wordlists.proofs.Lines.{read-bytes}

@@ -17,6 +17,7 @@ use Rattle.group.proofs.Reduced.{Canonical}
 use Rattle.refusals.specs.Outcomes.{Outcome, accepted, refused, after, valued, replyOf}
 use Rattle.refusals.specs.Placing.{fitting}
 use Rattle.refusals.specs.declared.Reply.{Reply}
+use Rattle.refusals.specs.Memory.{Memory}
 use Rattle.refusals.proofs.Outcomes.{accepted-same, accepted-refused, refused-number, refused-place}
 use Rattle.refusals.proofs.Placing.{fit-short, fit-long}
 use Rattle.fields.specs.Fields.{Bytes}
@@ -25,7 +26,6 @@ use Rattle.records.specs.Reading.{decode}
 use Rattle.records.proofs.Accepted.{decode-form, decode-accepts, record-decoded, decoded↔record}
 use Rattle.records.proofs.ClearedTables.{within-levels}
 use Rattle.forest.specs.Filling.{productForm}
-use Rattle.words.specs.Recording.{Memory}
 use Rattle.notation.specs.Contracts.{formText, textIn, TextRecorded, TextWritten}
 use Rattle.notation.proofs.FormRanges.{form-in-range}
 use Rattle.claims.specs.Refusals.{ShortTables, ShortRecord, NoTextRefusal}

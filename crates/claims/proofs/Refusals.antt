@@ -16,13 +16,14 @@ use Rattle.group.specs.Bytes.{bytesOf, Reading, isWord, notLetter, readWord, Fi
 use Rattle.group.specs.Limits.{limit}
 use Rattle.group.proofs.Bytes.{read-word, word-read, not-letter}
 use Rattle.refusals.specs.Outcomes.{Outcome, accepted, refused, then}
+use Rattle.refusals.specs.Memory.{Memory}
 use Rattle.refusals.proofs.Outcomes.{accepted-refused, refused-number, refused-place}
 use Rattle.records.specs.Format.{bufferSize}
 use Rattle.records.specs.Reading.{decode}
 use Rattle.fields.specs.Fields.{Bytes}
 use Rattle.records.proofs.Refused.{refused-3, refused-4, refused-5, refused-numbers}
 use Rattle.letters.specs.Judging.{judgedReading}
-use Rattle.words.specs.Recording.{Memory, judgedWith}
+use Rattle.words.specs.Recording.{judgedWith}
 use Rattle.claims.specs.Refusals.{Long, Unlettered, ShortTable, ShortBuffer, NoWordRefusal, WordRefusal}
 use Rattle.claims.specs.Refusals.{long, unlettered, shortTable, shortBuffer}
 use Rattle.claims.specs.Refusals.{RecordRefusal, unframed, faulty, unreduced}

@@ -23,6 +23,7 @@ use Rattle.group.proofs.Theorems.{joined-map, the-form-joined}
 use Rattle.group.proofs.FreeWords.{freely-joined}
 use Rattle.refusals.specs.Outcomes.{Outcome, accepted, refused, after, valued, replyOf}
 use Rattle.refusals.specs.declared.Reply.{Reply}
+use Rattle.refusals.specs.Memory.{Memory}
 use Rattle.refusals.proofs.Outcomes.{accepted-same, accepted-refused, refused-number, refused-place}
 use Rattle.records.specs.Format.{encode}
 use Rattle.records.specs.Reading.{decode}
@@ -31,7 +32,7 @@ use Rattle.records.proofs.Accepted.{decode-form, decode-accepts, record-decoded
 use Rattle.spelling.specs.Spelling.{Spells, spelling}
 use Rattle.spelling.specs.Contracts.{spelledIn, Spelled}
 use Rattle.spelling.proofs.Words.{spells, spells-only}
-use Rattle.words.specs.Recording.{Memory, encodeWord}
+use Rattle.words.specs.Recording.{encodeWord}
 use Rattle.claims.specs.Refusals.{ShortTable, ShortBuffer, NoWordRefusal, LongSpelling, ShortWord}
 use Rattle.claims.specs.Refusals.{RecordRefusal, SpellingRefusal, unspelled, longSpelling, shortWord}
 use Rattle.claims.specs.Answers.{IsRefused, Refuses, None}

@@ -14,6 +14,7 @@ use Rattle.group.specs.Powers.{SignedPower, productLetters, exponentSizes}
 use Rattle.group.proofs.Powers.{product-sum}
 use Rattle.refusals.specs.Outcomes.{Outcome, accepted, refused, after, replyOf}
 use Rattle.refusals.specs.declared.Reply.{Reply}
+use Rattle.refusals.specs.Memory.{Memory, memory}
 use Rattle.refusals.proofs.Outcomes.{accepted-refused, accepted-same, valued-accepted}
 use Rattle.records.specs.Format.{encode, bufferSize}
 use Rattle.records.proofs.Lengths.{encode-size}
@@ -23,7 +24,7 @@ use Rattle.tokens.specs.Texts.{textOf}
 use Rattle.tokens.specs.Reading.{TextRead, misspelled, large, read}
 use Rattle.tokens.proofs.Texts.{text-injective}
 use Rattle.forest.specs.Filling.{productForm, productTable}
-use Rattle.words.specs.Recording.{Memory, memory, encodeWord}
+use Rattle.words.specs.Recording.{encodeWord}
 use Rattle.notation.specs.Contracts.{judgedText, TextRecorded}
 use Rattle.claims.specs.Refusals.{TextRefusal}
 use Rattle.claims.specs.Answers.{IsRefused, Refuses}

@@ -19,6 +19,7 @@ use Rattle.group.proofs.Reduced.{form-reduced, form-trimmed}
 use Rattle.group.proofs.Sizes.{exponent-behind, trimmed-last}
 use Rattle.group.proofs.Theorems.{form-map, the-exponents}
 use Rattle.refusals.specs.Outcomes.{Outcome, accepted, refused}
+use Rattle.refusals.specs.Memory.{Memory}
 use Rattle.refusals.proofs.Outcomes.{accepted-refused, refused-number, refused-place}
 use Rattle.records.specs.Format.{bufferSize}
 use Rattle.tokens.specs.Tokens.{AllInRange}
@@ -27,7 +28,6 @@ use Rattle.tokens.specs.Reading.{TextRead, misspelled as unspelled, large, read
 use Rattle.tokens.proofs.Texts.{text-injective}
 use Rattle.tokens.proofs.Readings.{spelled-or-not, read-one}
 use Rattle.forest.specs.Filling.{productForm}
-use Rattle.words.specs.Recording.{Memory}
 use Rattle.notation.specs.Contracts.{roomFor, judgedText}
 use Rattle.claims.specs.Refusals.{Misspelled, LargeSum, HighForm, ShortTables, ShortRecord, NoTextRefusal}
 use Rattle.claims.specs.Refusals.{TextRefusal, misspelled, largeSum, highForm, shortTables, shortRecord}

@@ -12,7 +12,8 @@ use Rattle.group.specs.Chains.{Joined}
 use Rattle.refusals.specs.Outcomes.{Outcome, accepted, refused}
 use Rattle.refusals.specs.declared.Reply.{Reply}
 use Rattle.refusals.specs.declared.Reply.the-variants.{Number}
-use Rattle.words.specs.Recording.{Memory, judgedWith, encodeWord, countRecord, Left, Recorded}
+use Rattle.refusals.specs.Memory.{Memory}
+use Rattle.words.specs.Recording.{judgedWith, encodeWord, countRecord, Left, Recorded}
 use Rattle.comparisons.specs.Comparing.{Decision, same, different, refusedWord, decided, decisionOf}
 use Rattle.lists.specs.SameBytes.{sameBytes}
 use Rattle.comparisons.specs.Comparing.{ComparedBy, Compared}

@@ -15,11 +15,12 @@ use Rattle.group.proofs.Bytes.{read-length}
 use Rattle.group.proofs.Sizes.{form-sum}
 use Rattle.refusals.specs.Outcomes.{Outcome, accepted, refused, replyOf}
 use Rattle.refusals.specs.declared.Reply.{Reply}
+use Rattle.refusals.specs.Memory.{Memory, memory}
 use Rattle.refusals.proofs.Outcomes.{accepted-refused}
 use Rattle.records.proofs.WordForms.{form-within}
 use Rattle.records.proofs.Lengths.{encode-size}
 use Rattle.forest.specs.Filling.{tableAfter}
-use Rattle.words.specs.Recording.{Memory, memory, judgedWith, encodeWord, countRecord, bufferAfter, Left, Recorded}
+use Rattle.words.specs.Recording.{judgedWith, encodeWord, countRecord, bufferAfter, Left, Recorded}
 use Rattle.words.specs.inside.Writing.{WordWritten}
 use Rattle.words.proofs.Judged.{accepted-record}
 use Rattle.words.proofs.Written.{front-record}

@@ -21,11 +21,12 @@ use Rattle.group.specs.Products.{formOf}
 use Rattle.group.proofs.Reduced.{form-canonical, form-reduced, form-trimmed}
 use Rattle.group.proofs.Theorems.{form-map, forms↔joined}
 use Rattle.refusals.specs.Outcomes.{accepted}
+use Rattle.refusals.specs.Memory.{Memory}
 use Rattle.records.specs.Format.{encode, Within, IsRecord}
 use Rattle.records.specs.Reading.{decode}
 use Rattle.records.proofs.ReadBack.{encode-injective}
 use Rattle.records.proofs.Accepted.{decode-encode}
-use Rattle.words.specs.Recording.{Memory, encodeWord}
+use Rattle.words.specs.Recording.{encodeWord}
 use Rattle.claims.specs.Given.{RecordWritten}
 
 -- The bytes are the record of a word, and its form is within the limits.

@@ -19,7 +19,8 @@ use Rattle.group.specs.Bytes.{bytesOf}
 use Rattle.group.specs.Powers.{SignedPower, productLetters}
 use Rattle.refusals.specs.Outcomes.{accepted, replyOf}
 use Rattle.refusals.specs.declared.Reply.{Reply}
-use Rattle.words.specs.Recording.{Memory, Recorded}
+use Rattle.refusals.specs.Memory.{Memory}
+use Rattle.words.specs.Recording.{Recorded}
 use Rattle.comparisons.specs.Comparing.{Compared, decisionOf}
 use Rattle.comparisons.specs.declared.Comparison.{Comparison}
 use Rattle.pairs.specs.Contracts.{Paired, Measured}

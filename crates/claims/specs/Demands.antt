@@ -61,6 +61,7 @@ use Rattle.group.specs.Powers.{SignedPower}
 use Rattle.refusals.specs.Outcomes.{accepted, verdictOf, replyOf}
 use Rattle.refusals.specs.declared.Verdict.{Verdict}
 use Rattle.refusals.specs.declared.Reply.{Reply}
+use Rattle.refusals.specs.Memory.{Memory}
 use Rattle.records.specs.Format.{IsRecord}
 use Rattle.records.specs.Checking.{Checked}
 use Rattle.pairs.specs.Contracts.{Paired, Measured}
@@ -68,7 +69,7 @@ use Rattle.spelling.specs.Contracts.{Spelled}
 use Rattle.tokens.specs.Tokens.{AllInRange}
 use Rattle.tokens.specs.Texts.{textOf}
 use Rattle.notation.specs.Contracts.{TextRecorded, TextWritten}
-use Rattle.words.specs.Recording.{Memory, Recorded}
+use Rattle.words.specs.Recording.{Recorded}
 use Rattle.comparisons.specs.Comparing.{Compared, decisionOf, same, different}
 use Rattle.comparisons.specs.declared.Comparison.{Comparison}
 use Rattle.wordlists.specs.Listing.{Listed}

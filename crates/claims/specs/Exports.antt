@@ -12,11 +12,12 @@ use Prim.Native.Nat.{ℕ}
 use Rattle.refusals.specs.Outcomes.{verdictOf, replyOf}
 use Rattle.refusals.specs.declared.Verdict.{Verdict}
 use Rattle.refusals.specs.declared.Reply.{Reply}
+use Rattle.refusals.specs.Memory.{Memory}
 use Rattle.records.specs.Checking.{Checked}
 use Rattle.pairs.specs.Contracts.{Paired, Measured}
 use Rattle.spelling.specs.Contracts.{Spelled}
 use Rattle.notation.specs.Contracts.{TextRecorded, TextWritten}
-use Rattle.words.specs.Recording.{Memory, Recorded}
+use Rattle.words.specs.Recording.{Recorded}
 use Rattle.comparisons.specs.Comparing.{Compared, decisionOf}
 use Rattle.comparisons.specs.declared.Comparison.{Comparison}
 use Rattle.wordlists.specs.Listing.{Listed}

@@ -39,6 +39,7 @@ use Rattle.group.specs.Forms.{bSide, aSide, Form, exponent, letters}
 use Rattle.group.specs.Limits.{limit}
 use Rattle.group.specs.Powers.{SignedPower, productLetters, formPowers}
 use Rattle.refusals.specs.Outcomes.{Outcome, accepted, refused}
+use Rattle.refusals.specs.Memory.{Memory}
 use Rattle.records.specs.Format.{encode, IsRecord}
 use Rattle.tokens.specs.Texts.{textOf}
 use Rattle.trees.specs.Trees.{Tree, carets}
@@ -47,7 +48,6 @@ use Rattle.trees.specs.Shapes.{shape}
 use Rattle.lengths.specs.Kinds.{Kind, IsKind}
 use Rattle.lengths.specs.Weights.{weights}
 use Rattle.spelling.specs.Spelling.{Spells}
-use Rattle.words.specs.Recording.{Memory}
 use Rattle.comparisons.specs.Comparing.{Decision, same, different}
 
 -- The n bytes at the front of the buffer are the record of a reduced form with the word's map, and the first k entries

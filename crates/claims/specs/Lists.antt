@@ -39,10 +39,11 @@ use Rattle.group.specs.Products.{formOf}
 use Rattle.group.specs.Limits.{limit}
 use Rattle.refusals.specs.Outcomes.{Outcome, accepted, refused, replyOf}
 use Rattle.refusals.specs.declared.Reply.{Reply}
+use Rattle.refusals.specs.Memory.{Memory}
 use Rattle.fields.specs.Fields.{twoBytes, field}
 use Rattle.records.specs.Format.{baseSize, bufferSize}
 use Rattle.letters.specs.Judging.{lineRead}
-use Rattle.words.specs.Recording.{Memory, Recorded}
+use Rattle.words.specs.Recording.{Recorded}
 use Rattle.wordlists.specs.Items.{refusedTag, item, items}
 use Rattle.wordlists.specs.Listing.{Listed}
 use Rattle.claims.specs.Refusals.{ShortTables}

@@ -27,7 +27,7 @@ use Rattle.records.specs.Faults.{Framed, recordEntries, Sound, FirstFault, form
 use Rattle.trees.specs.Trees.{Tree, carets}
 use Rattle.trees.specs.Pairs.{SmallestPair}
 use Rattle.spelling.specs.Spelling.{Spells}
-use Rattle.words.specs.Recording.{Memory}
+use Rattle.refusals.specs.Memory.{Memory}
 
 -- 1: more letters than the limit; bytes are counted.
 abbrev pub Long : List ℕ → Type 0

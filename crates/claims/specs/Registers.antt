@@ -40,9 +40,9 @@ use Rattle.group.specs.Bytes.{bytesOf}
 use Rattle.group.specs.Forms.{Form, letters}
 use Rattle.refusals.specs.Outcomes.{accepted, verdictOf}
 use Rattle.refusals.specs.declared.Verdict.{Verdict}
+use Rattle.refusals.specs.Memory.{Memory}
 use Rattle.fields.specs.Fields.{fourBytes, headSize}
 use Rattle.records.specs.Format.{encode}
-use Rattle.words.specs.Recording.{Memory}
 use Rattle.registers.specs.Format.{Entry, Register, entryBase, entryField, registerBytes, numberMost, liveMost}
 use Rattle.registers.specs.Reading.{live, numberFor, readRegister}
 use Rattle.registers.specs.Finding.{found}

@@ -10,7 +10,8 @@ use Rattle.refusals.specs.declared.Verdict.the-variants.{Refused}
 use Rattle.refusals.specs.declared.Refusal.{Refusal}
 use Rattle.refusals.specs.Refusals.{numberOf, placeOf}
 use Rattle.refusals.specs.Outcomes.{Outcome, accepted, refused, dropValue, verdictOf}
-use Rattle.words.specs.Recording.{encodeWord, Memory, judgedWith, Left}
+use Rattle.refusals.specs.Memory.{Memory}
+use Rattle.words.specs.Recording.{encodeWord, judgedWith, Left}
 use Rattle.words.specs.inside.Writing.{Accepts}
 use Rattle.lists.specs.SameBytes.{sameBytes}
 use Rattle.lists.proofs.SameBytes.{same-bytes, bytes-same}

@@ -10,9 +10,10 @@ use Rattle.lists.specs.SameBytes.{sameBytes}
 use Rattle.group.specs.Letters.{Word}
 use Rattle.refusals.specs.Refusals.{numberOf, placeOf}
 use Rattle.refusals.specs.Outcomes.{Outcome, accepted, refused}
+use Rattle.refusals.specs.Memory.{Memory}
 use Rattle.comparisons.specs.declared.Comparison.{Comparison}
 use Rattle.comparisons.specs.declared.Comparison.the-variants.{Same, Different, First, Second}
-use Rattle.words.specs.Recording.{encodeWord, Memory, judgedWith, Left, beside}
+use Rattle.words.specs.Recording.{encodeWord, judgedWith, Left, beside}
 
 -- What the call comes to.
 pub data Decision : Type 0 where

@@ -1,7 +1,7 @@
 // Two words: same or different by their records. Both are judged before anything is written, and nothing that was lent
 // is touched on a refusal.
 ghost use mathlib.Core.Path.{_≡_};
-ghost use Rattle.words.specs.Recording.{memory};
+ghost use Rattle.refusals.specs.Memory.{memory};
 ghost use Rattle.comparisons.specs.Comparing.{decisionOf, verdictBy, Compared};
 use refusals::Refusal;
 use refusals::Verdict;

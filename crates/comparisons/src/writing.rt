@@ -2,7 +2,7 @@
 ghost use mathlib.Core.Path.{_≡_};
 ghost use Prim.Native.Nat.{_≤_};
 ghost use lib.ListN.{length, take};
-ghost use Rattle.words.specs.Recording.{memory};
+ghost use Rattle.refusals.specs.Memory.{memory};
 ghost use Rattle.words.specs.inside.Writing.{Accepts};
 ghost use Rattle.words.specs.inside.Lending.{bytesIn};
 ghost use Rattle.comparisons.specs.inside.Writing.{SaysSame, TwoWritten};

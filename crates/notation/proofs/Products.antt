@@ -22,6 +22,7 @@ use Rattle.refusals.specs.declared.Reply.the-variants.{Number, Refused}
 use Rattle.refusals.specs.Refusals.{numberOf, placeOf}
 use Rattle.refusals.specs.inside.Verdicts.{countIn}
 use Rattle.refusals.specs.Outcomes.{Outcome, accepted, refused, after, then, valued, dropValue, refusal, replyOf}
+use Rattle.refusals.specs.Memory.{Memory, memory}
 use Rattle.refusals.proofs.Outcomes.{accepted-refused, drop-accepted, drop-refused, passed}
 use Rattle.refusals.proofs.Outcomes.{refused-number, refused-place}
 use Rattle.records.specs.Format.{recordOf, encode, bufferSize}
@@ -31,7 +32,6 @@ use Rattle.encoding.specs.declared.Encoding.{Encoding}
 use Rattle.encoding.specs.inside.Contracts.{bytesWritten, encodeTables, Encoded}
 use Rattle.encoding.proofs.WriteAnswers.{bytes-written}
 use Rattle.forest.specs.Filling.{productForm, tablesFor, productTable}
-use Rattle.words.specs.Recording.{Memory, memory}
 use Rattle.notation.specs.inside.Products.{FilledBy, ShortRoom, judgedProduct, ProductRecorded}
 
 -- Powers that are accepted beside tables.

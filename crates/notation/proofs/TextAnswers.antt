@@ -14,6 +14,7 @@ use Rattle.refusals.specs.declared.Reply.{Reply}
 use Rattle.refusals.specs.declared.Reply.the-variants as Replies
 use Rattle.refusals.specs.Refusals.{numberOf, placeOf}
 use Rattle.refusals.specs.Outcomes.{Outcome, accepted, refused, after, valued}
+use Rattle.refusals.specs.Memory.{Memory}
 use Rattle.refusals.proofs.Outcomes.{accepted-same, accepted-refused, valued-refused, valued-accepted}
 use Rattle.records.specs.Format.{encode}
 use Rattle.tokens.specs.Tokens.{AllInRange}
@@ -23,7 +24,6 @@ use Rattle.tokens.specs.declared.Powers.{Powers}
 use Rattle.tokens.specs.declared.Tokens.{Tokens}
 use Rattle.tokens.specs.declared.Tokens.the-variants.{Read, Refused}
 use Rattle.forest.specs.Filling.{productForm, productTable}
-use Rattle.words.specs.Recording.{Memory}
 use Rattle.notation.specs.Contracts.{judgedText, TextRecorded}
 use Rattle.notation.specs.inside.Products.{Kept, ProductRecorded}
 use Rattle.notation.proofs.HeldPowers.{held-kept}

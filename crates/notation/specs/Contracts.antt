@@ -16,11 +16,11 @@ use Rattle.group.specs.Powers.{SignedPower, exponentSizes, formPowers}
 use Rattle.refusals.specs.Outcomes.{Outcome, accepted, refused, after, then, valued, replyOf}
 use Rattle.refusals.specs.Placing.{fitting, Placed}
 use Rattle.refusals.specs.declared.Reply.{Reply}
+use Rattle.refusals.specs.Memory.{Memory}
 use Rattle.fields.specs.Fields.{Bytes}
 use Rattle.records.specs.Format.{encode, bufferSize}
 use Rattle.records.specs.Reading.{decode}
 use Rattle.forest.specs.Filling.{productForm, tablesFor, productTable}
-use Rattle.words.specs.Recording.{Memory}
 use Rattle.tokens.specs.Texts.{textOf}
 use Rattle.tokens.specs.Reading.{TextRead}
 

@@ -1,5 +1,5 @@
 // Subscript notation: read into a record, and written from one.
-ghost use Rattle.words.specs.Recording.{memory};
+ghost use Rattle.refusals.specs.Memory.{memory};
 ghost use Rattle.notation.specs.Contracts.{TextRecorded, TextWritten};
 use refusals::LIMIT;
 use refusals::Reply;

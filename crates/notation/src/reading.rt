@@ -5,7 +5,7 @@ ghost use lib.ListN.{length};
 ghost use Rattle.group.specs.Powers.{exponentSizes};
 ghost use Rattle.group.specs.inside.PowerLists.{powersIn};
 ghost use Rattle.records.specs.Format.{bufferSize};
-ghost use Rattle.words.specs.Recording.{memory};
+ghost use Rattle.refusals.specs.Memory.{memory};
 ghost use Rattle.notation.specs.inside.Products.{Kept, fillingReply, FilledBy, ShortRoom};
 ghost use Rattle.notation.specs.inside.Products.{ProductRecorded};
 use forest::Filling;

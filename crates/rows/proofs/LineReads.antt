@@ -8,9 +8,9 @@ use borrow.Author.Tests.{lt-ltb, le-ltb}
 use Rattle.group.specs.Bytes.{readWord}
 use Rattle.group.specs.Limits.{limit}
 use Rattle.refusals.specs.Outcomes.{refused}
+use Rattle.refusals.specs.Memory.{Memory}
 use Rattle.records.specs.Format.{bufferSize}
 use Rattle.letters.specs.Judging.{judgedReading, lineRead}
-use Rattle.words.specs.Recording.{Memory}
 use Rattle.words.specs.inside.Lending.{LineRoom}
 
 -- Tables and a buffer of the limit's size are long enough for every line.

@@ -17,13 +17,14 @@ use Rattle.refusals.specs.Outcomes.{Outcome, accepted, refused, replyOf}
 use Rattle.refusals.specs.declared.Refusal.{Refusal}
 use Rattle.refusals.specs.declared.Reply.{Reply}
 use Rattle.refusals.specs.declared.Reply.the-variants.{Number, Refused}
+use Rattle.refusals.specs.Memory.{Memory}
 use Rattle.refusals.proofs.Outcomes.{valued-refused, valued-accepted}
 use Rattle.records.specs.Format.{encode, bufferSize}
 use Rattle.records.proofs.Lengths.{encode-size}
 use Rattle.trees.specs.Pairs.{caretsOf}
 use Rattle.lengths.specs.Weights.{formLength}
 use Rattle.forest.specs.Filling.{tableAfter}
-use Rattle.words.specs.Recording.{encodeWord, bufferAfter, Memory, judgedWith, Recorded}
+use Rattle.words.specs.Recording.{encodeWord, bufferAfter, judgedWith, Recorded}
 use Rattle.words.proofs.Judged.{RecordFit, accepted-record}
 use Rattle.rows.specs.Receipts.{refusalReceipt, receiptBy, receiptOf}
 use Rattle.letters.specs.Judging.{lineRead}

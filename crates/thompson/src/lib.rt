@@ -3,8 +3,9 @@
 // answers two numbers more.
 ghost use mathlib.Core.Path.{_≡_};
 ghost use Rattle.refusals.specs.Outcomes.{verdictOf, replyOf};
+ghost use Rattle.refusals.specs.Memory.{memory};
 ghost use Rattle.records.specs.Checking.{Checked};
-ghost use Rattle.words.specs.Recording.{memory, Recorded};
+ghost use Rattle.words.specs.Recording.{Recorded};
 ghost use Rattle.comparisons.specs.Comparing.{decisionOf, Compared};
 ghost use Rattle.wordlists.specs.Listing.{Listed};
 ghost use Rattle.pairs.specs.Contracts.{Paired, Measured};

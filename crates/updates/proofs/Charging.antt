@@ -10,8 +10,9 @@ use borrow.Author.Tests.{eq-eqb}
 use Rattle.group.specs.Letters.{Word}
 use Rattle.group.specs.Forms.{Form}
 use Rattle.refusals.specs.Outcomes.{Outcome, accepted, refused, then}
+use Rattle.refusals.specs.Memory.{Memory}
 use Rattle.refusals.proofs.Outcomes.{accepted-same, accepted-refused}
-use Rattle.words.specs.Recording.{Memory, judgedWith}
+use Rattle.words.specs.Recording.{judgedWith}
 use Rattle.registers.specs.Format.{Entry, Register}
 use Rattle.registers.specs.Reading.{live, numberFor, readRegister}
 use Rattle.registers.proofs.Counts.{ownedBy, live-behind}

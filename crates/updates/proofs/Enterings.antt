@@ -18,10 +18,11 @@ use Rattle.refusals.specs.declared.Verdict.{Verdict}
 use Rattle.refusals.specs.declared.Verdict.the-variants as Verdicts
 use Rattle.refusals.specs.Outcomes.{Outcome, accepted, then, dropValue, refusal, verdictOf}
 use Rattle.refusals.specs.inside.Verdicts.{countIn}
+use Rattle.refusals.specs.Memory.{Memory}
 use Rattle.fields.specs.Fields.{Bytes, fourBytes, headSize}
 use Rattle.records.specs.Format.{encode}
 use Rattle.forest.specs.Filling.{tableAfter}
-use Rattle.words.specs.Recording.{Memory, bufferAfter, judgedWith, Left, Recorded}
+use Rattle.words.specs.Recording.{bufferAfter, judgedWith, Left, Recorded}
 use Rattle.words.specs.Recording.{beside}
 use Rattle.words.specs.inside.Writing.{Accepts}
 use Rattle.words.proofs.Written.{verdict-refused}

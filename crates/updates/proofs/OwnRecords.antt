@@ -20,11 +20,12 @@ use Rattle.refusals.specs.Outcomes.{Outcome, accepted, refused, then, replyOf}
 use Rattle.refusals.specs.declared.Reply.{Reply}
 use Rattle.refusals.specs.declared.Reply.the-variants.{Number, Refused}
 use Rattle.refusals.specs.inside.Verdicts.{countIn}
+use Rattle.refusals.specs.Memory.{Memory}
 use Rattle.refusals.proofs.Outcomes.{accepted-same, accepted-refused}
 use Rattle.records.specs.Format.{bufferSize}
 use Rattle.records.proofs.Lengths.{encode-size}
 use Rattle.letters.specs.Judging.{judgedReading, judged}
-use Rattle.words.specs.Recording.{Memory, encodeWord, countRecord, bufferAfter, judgedRecord, judgedWith, Recorded}
+use Rattle.words.specs.Recording.{encodeWord, countRecord, bufferAfter, judgedRecord, judgedWith, Recorded}
 use Rattle.words.proofs.Judged.{accepted-record}
 use Rattle.updates.specs.declared.deciding.Decision.{Decision}
 use Rattle.updates.specs.Entering.{storedForm}

@@ -14,12 +14,13 @@ use Rattle.group.proofs.Bytes.{word-read, read-length}
 use Rattle.group.proofs.Reduced.{form-canonical, form-trimmed}
 use Rattle.group.proofs.Theorems.{forms↔joined}
 use Rattle.refusals.specs.Outcomes.{accepted}
+use Rattle.refusals.specs.Memory.{Memory}
 use Rattle.records.specs.Format.{encode}
 use Rattle.records.specs.Reading.{decode}
 use Rattle.records.proofs.Accepted.{decode-encode}
 use Rattle.records.proofs.ReadBack.{encode-injective}
 use Rattle.records.proofs.WordForms.{form-within}
-use Rattle.words.specs.Recording.{Memory, judgedWith}
+use Rattle.words.specs.Recording.{judgedWith}
 use Rattle.words.proofs.Judged.{accepted-record}
 use Rattle.updates.specs.Entering.{storedForm}
 use Rattle.updates.specs.History.{SameElement}

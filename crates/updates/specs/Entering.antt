@@ -15,8 +15,9 @@ use Rattle.group.specs.Letters.{Word}
 use Rattle.group.specs.Forms.{Form}
 use Rattle.group.specs.Products.{formOf}
 use Rattle.refusals.specs.Outcomes.{Outcome, accepted, refused, after, then, valued, refusal}
+use Rattle.refusals.specs.Memory.{Memory}
 use Rattle.fields.specs.Fields.{Bytes}
-use Rattle.words.specs.Recording.{Memory, judgedWith, Left}
+use Rattle.words.specs.Recording.{judgedWith, Left}
 use Rattle.words.specs.Recording.{beside}
 use Rattle.registers.specs.Format.{Register, registerBytes, numberMost, liveMost, stored}
 use Rattle.registers.specs.Reading.{live, numberFor, readRegister}

@@ -15,8 +15,8 @@ use Rattle.group.specs.Letters.{Word}
 use Rattle.group.specs.Bytes.{bytesOf}
 use Rattle.group.specs.Chains.{Joined}
 use Rattle.refusals.specs.Outcomes.{Outcome, accepted, refused}
+use Rattle.refusals.specs.Memory.{Memory}
 use Rattle.fields.specs.Fields.{fourBytes, field}
-use Rattle.words.specs.Recording.{Memory}
 use Rattle.registers.specs.Format.{Register, registerMost, lastTag}
 use Rattle.registers.specs.Reading.{ends, live}
 use Rattle.registers.specs.WellFormed.{WellFormed}

@@ -1,6 +1,6 @@
 // What a filing comes to, found before anything that was lent is written.
 ghost use mathlib.Core.Path.{_≡_};
-ghost use Rattle.words.specs.Recording.{memory};
+ghost use Rattle.refusals.specs.Memory.{memory};
 ghost use Rattle.updates.specs.inside.Steps.{settled, Judged, DecidedWith, Decided};
 use crate::Account;
 use records::BASE_SIZE;

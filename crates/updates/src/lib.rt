@@ -1,6 +1,6 @@
 // A word entered into a register of first filings, and a holder's account (02, [3]). All is judged first, in arrays of
 // the call's own, and what was lent is written last.
-ghost use Rattle.words.specs.Recording.{memory};
+ghost use Rattle.refusals.specs.Memory.{memory};
 ghost use Rattle.updates.specs.Accounts.{AccountRead};
 ghost use Rattle.updates.specs.Entering.{EnteredWord};
 use refusals::Refusal;

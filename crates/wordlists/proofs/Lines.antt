@@ -14,10 +14,11 @@ use Rattle.group.specs.Bytes.{bytesOf, Reading, isWord, notLetter, readWord}
 use Rattle.group.specs.Limits.{limit}
 use Rattle.group.proofs.Bytes.{read-word, bytes-length, not-letter}
 use Rattle.refusals.specs.Outcomes.{accepted, refused}
+use Rattle.refusals.specs.Memory.{Memory}
 use Rattle.refusals.proofs.Outcomes.{accepted-refused, refused-number, refused-place}
 use Rattle.records.specs.Format.{bufferSize}
 use Rattle.letters.specs.Judging.{judgedReading, lineRead}
-use Rattle.words.specs.Recording.{Memory, judgedWith}
+use Rattle.words.specs.Recording.{judgedWith}
 use Rattle.words.proofs.LineReads.{line-judged}
 
 -- Tables of as many entries as a word asks for are never too short.

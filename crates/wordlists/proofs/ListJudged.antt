@@ -18,9 +18,9 @@ use Rattle.refusals.specs.declared.Reply.the-variants.{Number, Refused as NoNum
 use Rattle.refusals.specs.declared.Verdict.{Verdict}
 use Rattle.refusals.specs.declared.Verdict.the-variants.{Accepted, Refused}
 use Rattle.refusals.specs.Outcomes.{Outcome, accepted, refused, after, valued, dropValue, verdictOf}
+use Rattle.refusals.specs.Memory.{Memory}
 use Rattle.refusals.proofs.Outcomes.{passed, drop-accepted, drop-refused}
 use Rattle.records.specs.Format.{baseSize}
-use Rattle.words.specs.Recording.{Memory}
 use lib.Seq.{sets}
 use Rattle.wordlists.specs.Items.{items, listSize}
 use Rattle.wordlists.specs.Listing.{listJudged, listJudgedWith, tableBehind, itemsIn, Listed}

@@ -20,11 +20,12 @@ use Rattle.refusals.specs.declared.Reply.the-variants.{Number, Refused}
 use Rattle.refusals.specs.Refusals.{numberOf, placeOf}
 use Rattle.refusals.specs.Outcomes.{Outcome, refused, replyOf}
 use Rattle.refusals.specs.inside.Verdicts.{countIn}
+use Rattle.refusals.specs.Memory.{Memory, memory}
 use Rattle.refusals.proofs.Outcomes.{valued-refused, valued-accepted}
 use Rattle.fields.specs.Fields.{twoBytes, field}
 use Rattle.letters.specs.Judging.{lineRead}
 use Rattle.forest.specs.Filling.{tableAfter}
-use Rattle.words.specs.Recording.{Memory, memory, encodeWord, countRecord, bufferAfter, judgedWith, Left, Recorded}
+use Rattle.words.specs.Recording.{encodeWord, countRecord, bufferAfter, judgedWith, Left, Recorded}
 use Rattle.wordlists.specs.Items.{refusedTag, item, items, listSize, tablesThen}
 use Rattle.wordlists.specs.inside.Steps.{itemSize, LongTables, ItemRoom, ItemPut, ListRoom, ItemsPut}
 use Rattle.wordlists.proofs.Lines.{judged-line, read-refused}

@@ -15,7 +15,7 @@ use Rattle.group.specs.Limits.{limit}
 use Rattle.refusals.specs.Outcomes.{Outcome, accepted, refused, after, then}
 use Rattle.refusals.specs.Placing.{Placed}
 use Rattle.refusals.specs.declared.Reply.{Reply}
-use Rattle.words.specs.Recording.{Memory}
+use Rattle.refusals.specs.Memory.{Memory}
 use Rattle.wordlists.specs.Items.{items, listSize, tablesThen}
 
 -- The lines of a list, beside tables and an output of these lengths: 6 where a table has fewer entries than the limit

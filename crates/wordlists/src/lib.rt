@@ -4,7 +4,7 @@ ghost use mathlib.Core.Path.{_≡_};
 ghost use lib.Dec.{ltb};
 ghost use Rattle.lines.specs.Lines.{linesOf};
 ghost use Rattle.refusals.specs.Outcomes.{verdictOf, dropValue};
-ghost use Rattle.words.specs.Recording.{memory};
+ghost use Rattle.refusals.specs.Memory.{memory};
 ghost use Rattle.wordlists.specs.Items.{listSize};
 ghost use Rattle.wordlists.specs.Listing.{listJudged, Listed};
 use forest::CELLS;

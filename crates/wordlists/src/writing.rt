@@ -5,7 +5,7 @@ ghost use lib.ListN.{length};
 ghost use Rattle.lists.specs.inside.Writes.{Wrote};
 ghost use Rattle.fields.specs.Fields.{twoBytes, field};
 ghost use Rattle.refusals.specs.Refusals.{numberOf, placeOf};
-ghost use Rattle.words.specs.Recording.{memory};
+ghost use Rattle.refusals.specs.Memory.{memory};
 ghost use Rattle.wordlists.specs.Items.{refusedTag};
 ghost use Rattle.wordlists.specs.inside.Steps.{itemSize, ItemRoom, ItemPut, ListRoom, ItemsPut};
 use fields::integers::put_two;

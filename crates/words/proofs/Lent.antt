@@ -17,12 +17,13 @@ use Rattle.refusals.specs.declared.Verdict.the-variants.{Accepted, Refused as N
 use Rattle.refusals.specs.declared.Reply.{Reply}
 use Rattle.refusals.specs.Outcomes.{Outcome, accepted, refused, then, dropValue, refusal, verdictOf, replyOf}
 use Rattle.refusals.specs.inside.Verdicts.{refusalIn}
+use Rattle.refusals.specs.Memory.{Memory}
 use Rattle.refusals.proofs.Outcomes.{accepted-refused, drop-refused, valued-refused}
 use Rattle.records.specs.Format.{bufferSize}
 use Rattle.letters.specs.Judging.{judgedReading, judged}
 use Rattle.forest.specs.inside.Filling.{cellsFor, roomFor, fits}
 use Rattle.forest.proofs.WordFits.{tip-low, tip-within, fits-for}
-use Rattle.words.specs.Recording.{countRecord, Memory, judgedWith, Left, Recorded}
+use Rattle.words.specs.Recording.{countRecord, judgedWith, Left, Recorded}
 use Rattle.words.specs.inside.Writing.{Accepts, WordWritten}
 use Rattle.words.specs.inside.Lending.{recordingOf, testedBy, judgedWithin, RecordedWith, replyIn, bytesIn}
 use Rattle.words.specs.declared.Recording.{Recording}

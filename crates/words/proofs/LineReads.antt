@@ -11,9 +11,10 @@ use borrow.Author.Tests.{le-ltb, ltb-false}
 use Rattle.group.specs.Bytes.{Reading, isWord, notLetter, readWord}
 use Rattle.group.specs.Limits.{limit}
 use Rattle.refusals.specs.Outcomes.{accepted, refused, then}
+use Rattle.refusals.specs.Memory.{Memory}
 use Rattle.records.specs.Format.{bufferSize}
 use Rattle.letters.specs.Judging.{judgedReading, lineRead}
-use Rattle.words.specs.Recording.{Memory, judgedWith}
+use Rattle.words.specs.Recording.{judgedWith}
 use Rattle.words.specs.inside.Lending.{LineRoom}
 
 module _ (n nb na nr : ℕ) (hb : n ≤ limit → suc n ≤ nb) (ha : n ≤ limit → suc n ≤ na)

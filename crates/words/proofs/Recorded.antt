@@ -21,6 +21,7 @@ use Rattle.group.proofs.Bytes.{read-length}
 use Rattle.group.proofs.Sizes.{form-sum}
 use Rattle.refusals.specs.Refusals.{numberOf, placeOf}
 use Rattle.refusals.specs.Outcomes.{Outcome, accepted, refused, after, valued}
+use Rattle.refusals.specs.Memory.{memory}
 use Rattle.refusals.proofs.Outcomes.{accepted-refused, drop-accepted, drop-refused}
 use Rattle.records.specs.Format.{bufferSize, recordOf}
 use Rattle.encoding.specs.inside.Contracts.{bytesWritten, encodeTables, Encoded}
@@ -35,7 +36,7 @@ use Rattle.forest.specs.inside.Filling.{fits, judgedIn, fillingOf, FilledTables
 use Rattle.forest.specs.declared.Filling.{Filling}
 use Rattle.forest.specs.declared.Filling.the-variants.{Filled, Refused as NotFilled, Unfit as NoScratch}
 use Rattle.forest.proofs.Filling as Answer
-use Rattle.words.specs.Recording.{memory, encodeWord, countRecord, bufferAfter}
+use Rattle.words.specs.Recording.{encodeWord, countRecord, bufferAfter}
 use Rattle.words.specs.inside.Lending.{recordingOf, testedBy, judgedWithin, RecordedWith, unfilledBy}
 use Rattle.words.specs.declared.Recording.{Recording}
 use Rattle.words.specs.declared.Recording.the-variants.{Bytes}

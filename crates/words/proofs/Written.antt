@@ -15,10 +15,11 @@ use Rattle.refusals.specs.declared.Verdict.the-variants.{Accepted, Refused}
 use Rattle.refusals.specs.declared.Refusal.{Refusal}
 use Rattle.refusals.specs.Refusals.{numberOf, placeOf}
 use Rattle.refusals.specs.Outcomes.{Outcome, refused, dropValue, verdictOf}
+use Rattle.refusals.specs.Memory.{Memory}
 use Rattle.refusals.proofs.Outcomes.{accepted-same, drop-accepted, drop-refused}
 use Rattle.records.proofs.Lengths.{encode-size}
 use Rattle.forest.specs.Filling.{tableAfter}
-use Rattle.words.specs.Recording.{encodeWord, countRecord, bufferAfter, Memory, judgedWith, Left}
+use Rattle.words.specs.Recording.{encodeWord, countRecord, bufferAfter, judgedWith, Left}
 use Rattle.words.specs.inside.Writing.{Accepts, WordWritten}
 use Rattle.words.proofs.Judged.{accepted-record}
 

@@ -14,6 +14,7 @@ use Rattle.group.specs.Letters.{Word}
 use Rattle.group.specs.Forms.{bSide, aSide}
 use Rattle.group.specs.Products.{formOf}
 use Rattle.refusals.specs.Outcomes.{Outcome, accepted, refused, after, then, valued, replyOf}
+use Rattle.refusals.specs.Memory.{Memory}
 use Rattle.refusals.specs.declared.Reply.{Reply}
 use Rattle.records.specs.Format.{encode, bufferSize}
 use Rattle.letters.specs.Judging.{judged}
@@ -36,15 +37,6 @@ bufferAfter o buffer = after o buffer (λ w. sets buffer 0 (encodeWord w))
 -- The outcome of the call: the number of bytes of the record.
 abbrev pub countRecord : Outcome Word → Outcome ℕ
 countRecord o = valued (λ w. length (encodeWord w)) o
-
--- What is lent with one word, at entry or at exit: the b table, the a table and the record buffer.
-pub record Memory : Type 0 where
-  pub b : List ℕ
-  pub a : List ℕ
-  pub buffer : List ℕ
-
-abbrev pub memory : (b a buffer : List ℕ) → Memory
-memory b a buffer = record { b = b; a = a; buffer = buffer }
 
 -- The word beside the memory that is lent with it.
 abbrev pub judgedWith : List ℕ → Memory → Outcome Word

@@ -1,7 +1,8 @@
 // Word to record, also with scratch that is lent: judged first, and nothing that was lent is touched on a refusal.
 ghost use mathlib.Core.Path.{_≡_};
 ghost use Rattle.refusals.specs.Outcomes.{verdictOf, dropValue};
-ghost use Rattle.words.specs.Recording.{judgedRecord, memory, Recorded};
+ghost use Rattle.refusals.specs.Memory.{memory};
+ghost use Rattle.words.specs.Recording.{judgedRecord, Recorded};
 ghost use Rattle.words.specs.inside.Lending.{RecordedWith, replyIn};
 use forest::Filling;
 use refusals::Refusal;

@@ -1,5 +1,5 @@
 -- `same_element` meets its contract: both words are judged, and then written. Assumes nothing.
-use Rattle.words.specs.Recording.{Memory, memory}
+use Rattle.refusals.specs.Memory.{Memory, memory}
 use Rattle.words.specs.inside.Writing.{Accepts}
 use Rattle.words.proofs.Written.{verdict-accepts}
 use Rattle.comparisons.proofs.Compared.{first-refused, second-refused, both-written}

@@ -5,7 +5,7 @@ use mathlib.Core.Bool.{Bool, true}
 use mathlib.Core.List.{List}
 use Prim.Native.Nat.{ℕ}
 use lib.ListN.{take}
-use Rattle.words.specs.Recording.{Memory}
+use Rattle.refusals.specs.Memory.{Memory}
 use Rattle.words.specs.inside.Writing.{WordWritten}
 
 -- The answer says whether two lists are the same.

@@ -12,11 +12,11 @@ use Rattle.refusals.specs.declared.Refusal.{Refusal}
 use Rattle.refusals.specs.declared.Reply.{Reply}
 use Rattle.refusals.specs.declared.Reply.the-variants.{Number, Refused}
 use Rattle.refusals.specs.Outcomes.{Outcome, accepted, refused, after, then, valued, dropValue, refusal, replyOf}
+use Rattle.refusals.specs.Memory.{Memory}
 use Rattle.records.specs.Format.{encode}
 use Rattle.forest.specs.declared.Filling.{Filling}
 use Rattle.forest.specs.declared.Filling.the-variants.{Filled, Refused as NotFilled, Unfit}
 use Rattle.forest.specs.Filling.{productForm, tablesFor, productTable}
-use Rattle.words.specs.Recording.{Memory}
 use Rattle.tokens.specs.Tokens.{AllInRange}
 use Rattle.notation.specs.Contracts.{roomFor}
 

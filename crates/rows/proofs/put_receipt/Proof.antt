@@ -3,7 +3,7 @@ use mathlib.Core.Path.{refl}
 use Prim.Native.Nat.{_≤_}
 use borrow.Author.Needs.{needs}
 use Rattle.refusals.proofs.Placing.{place-short, place-long}
-use Rattle.words.specs.Recording.{memory}
+use Rattle.refusals.specs.Memory.{memory}
 use Rattle.rows.specs.Receipts.{receiptSize}
 use lib.ListN.{length}
 use Rattle.rows.proofs.LineReads.{full-room}

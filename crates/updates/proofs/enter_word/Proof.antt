@@ -6,7 +6,7 @@ use native.Mathlib.Omega.{arith}
 use lib.Seq.{length-take-le}
 use borrow.Author.Needs.{needs}
 use Rattle.fields.specs.Fields.{Bytes}
-use Rattle.words.specs.Recording.{Memory, memory}
+use Rattle.refusals.specs.Memory.{Memory, memory}
 use Rattle.words.specs.inside.Writing.{Accepts}
 use Rattle.words.proofs.Written.{verdict-accepts}
 use Rattle.updates.proofs.OwnRecords.{count-inside}

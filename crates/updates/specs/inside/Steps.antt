@@ -15,9 +15,10 @@ use Rattle.group.specs.Forms.{Form}
 use Rattle.group.specs.Limits.{limit}
 use Rattle.refusals.specs.declared.Refusal.the-variants.{HolderFull, RegisterFull}
 use Rattle.refusals.specs.Outcomes.{Outcome, accepted, then, refusal}
+use Rattle.refusals.specs.Memory.{Memory}
 use Rattle.fields.specs.Fields.{Bytes, fourBytes, headSize}
 use Rattle.records.specs.Format.{encode, bufferSize}
-use Rattle.words.specs.Recording.{Memory, judgedRecord, judgedWith}
+use Rattle.words.specs.Recording.{judgedRecord, judgedWith}
 use Rattle.registers.specs.Format.{Register, registerBytes, registerMost, numberMost, liveMost}
 use Rattle.registers.specs.Format.{entryBase, firstSize, entryField, endMark}
 use Rattle.registers.specs.Reading.{numberFor, readRegister}

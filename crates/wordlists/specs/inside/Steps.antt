@@ -10,7 +10,7 @@ use Rattle.group.specs.Limits.{limit}
 use Rattle.records.specs.Format.{bufferSize}
 use Rattle.letters.specs.Judging.{lineRead}
 use Rattle.forest.specs.Filling.{tableAfter}
-use Rattle.words.specs.Recording.{Memory}
+use Rattle.refusals.specs.Memory.{Memory}
 use Rattle.wordlists.specs.Items.{item, items, listSize, tablesThen}
 
 -- The bytes of the item of a refused word.

@@ -11,11 +11,12 @@ use Rattle.refusals.specs.declared.Reply.{Reply}
 use Rattle.refusals.specs.declared.Reply.the-variants.{Number, Refused as NoNumber}
 use Rattle.refusals.specs.declared.Refusal.the-variants.{BadFrame}
 use Rattle.refusals.specs.Outcomes.{Outcome, accepted, refused, refusal}
+use Rattle.refusals.specs.Memory.{Memory}
 use Rattle.records.specs.Format.{bufferSize}
 use Rattle.forest.specs.declared.Filling.{Filling}
 use Rattle.forest.specs.declared.Filling.the-variants.{Filled, Refused as NotFilled, Unfit as NoScratch}
 use Rattle.forest.specs.inside.Filling.{lastTip, fitsFor, fits}
-use Rattle.words.specs.Recording.{countRecord, judgedRecord, Memory, judgedWith, Left}
+use Rattle.words.specs.Recording.{countRecord, judgedRecord, judgedWith, Left}
 use Rattle.words.specs.declared.Recording.{Recording}
 use Rattle.words.specs.declared.Recording.the-variants.{Bytes, Refused, Unfit}
 

@@ -5,7 +5,8 @@ use mathlib.Core.List.{List}
 use Prim.Native.Nat.{ℕ}
 use Rattle.group.specs.Letters.{Word}
 use Rattle.refusals.specs.Outcomes.{accepted}
-use Rattle.words.specs.Recording.{countRecord, Memory, judgedWith, Left}
+use Rattle.refusals.specs.Memory.{Memory}
+use Rattle.words.specs.Recording.{countRecord, judgedWith, Left}
 
 -- The word is accepted beside its memory.
 pub record Accepts (word : List ℕ) (m : Memory) : Type 0 where

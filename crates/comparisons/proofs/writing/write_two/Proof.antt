@@ -1,6 +1,6 @@
 -- `write_two` meets its contract: the second word finds the scratch as the first left it. Assumes nothing.
 use Prim.Native.Nat.{ℕ}
-use Rattle.words.specs.Recording.{Memory, memory}
+use Rattle.refusals.specs.Memory.{Memory, memory}
 use Rattle.words.specs.inside.Writing.{WordWritten}
 use Rattle.words.proofs.Written.{record-inside}
 use Rattle.words.proofs.Lent.{large-written}

@@ -9,8 +9,9 @@ use borrow.Author.Needs.{needs}
 use Rattle.lists.proofs.Writes.{wrote-same}
 use Rattle.group.specs.Limits.{limit}
 use Rattle.refusals.specs.declared.Refusal.the-variants.{BadFrame}
+use Rattle.refusals.specs.Memory.{Memory, memory}
 use Rattle.records.specs.Format.{bufferSize}
-use Rattle.words.specs.Recording.{Memory, memory, Recorded}
+use Rattle.words.specs.Recording.{Recorded}
 use Rattle.words.specs.inside.Lending.{replyIn}
 use Rattle.words.proofs.Lent.{large-recorded}
 use Rattle.rows.proofs.LineReceipts.{receipt-refused, letters-within, record-within, receipt-row}

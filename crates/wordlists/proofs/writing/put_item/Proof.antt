@@ -5,7 +5,8 @@ use Prim.Native.Nat.{ℕ}
 use native.Mathlib.Omega.{arith}
 use borrow.Author.Needs.{needs}
 use Rattle.refusals.specs.declared.Reply.{Reply}
-use Rattle.words.specs.Recording.{memory, Recorded}
+use Rattle.refusals.specs.Memory.{memory}
+use Rattle.words.specs.Recording.{Recorded}
 use Rattle.words.proofs.Lent.{large-recorded}
 use Rattle.wordlists.proofs.Putting.{partFrom, item-within, item-written, refusal-place, refusal-room}
 use Rattle.wordlists.proofs.Putting.{item-refused}

@@ -4,7 +4,7 @@ use Prim.Native.Nat.{ℕ, _-_, _≤_}
 use native.Mathlib.Omega.{arith}
 use lib.ListN.{length}
 use Rattle.lines.proofs.LineEnds.{line-end-from, line-end-within}
-use Rattle.words.specs.Recording.{memory}
+use Rattle.refusals.specs.Memory.{memory}
 use Rattle.wordlists.proofs.Putting.{Putting, putting-starts, putting-room, putting-more, putting-ends}
 use Rattle.wordlists.proofs.writing.put_items.Statement.{statement}
 use Rattle.wordlists.proofs.writing.put_items.Tie as tie
