@@ -25,7 +25,7 @@ use Rattle.wordlists.specs.Listing.{listJudgedWith, tableBehind, itemsIn, Liste
 use Rattle.wordlists.proofs.Lines.{read-bytes}
 use Rattle.wordlists.proofs.Items.{items-append, item-word}
 use Rattle.wordlists.proofs.Sizes.{items-size, read-letters}
-use Rattle.wordlists.proofs.Tables.{NoneReach, tables-kept, tables-last}
+use Rattle.wordlists.proofs.Tables.{NoLineReaches, tables-kept, tables-last}
 use Rattle.claims.specs.Calls.{MemoryCall}
 use Rattle.claims.specs.Lists.{itemAt, ListIsCalls, SomeCalls, NoneReaches, LastWordFills, ListRecordsJoined}
 use Rattle.claims.proofs.TextRefusals.{b-full, a-full}
@@ -89,8 +89,8 @@ pub some-calls : SomeCalls
 some-calls = calls-exist
 
 -- Said of what the lines are read as: an accepted line is the bytes of its word, which is within the limit.
-none-reach : (i : ℕ) (ls : List (List ℕ)) → NoneReaches i ls → NoneReach i ls
-none-reach i ls none k l w at e =
+no-line-reaches : (i : ℕ) (ls : List (List ℕ)) → NoneReaches i ls → NoLineReaches i ls
+no-line-reaches i ls none k l w at e =
     let fit = accepted-fit l (length l + 1) (length l + 1) w e in
     none k w (subst (At ls k) (word-read l w (fit .reads)) at) (omega (arith, fit .short, read-letters l w e))
 
@@ -100,10 +100,10 @@ module _ (s : Side) (ls : List (List ℕ)) (t : List ℕ) {t′ : List ℕ} (so 
       → i ≤ length w → NoneReaches i behind → getD t′ i 0 ≡ exponent s (formOf w) i
   entry-last before behind w same few reached none =
       ap (λ (u : List ℕ). getD u i 0) (so ∙ ap (λ (ks : List (List ℕ)). tablesThen s ks t) same)
-      ∙ tables-last s i before behind (bytesOf w) w t (read-bytes w few) reached (none-reach i behind none)
+      ∙ tables-last s i before behind (bytesOf w) w t (read-bytes w few) reached (no-line-reaches i behind none)
 
   entry-kept : NoneReaches i ls → getD t′ i 0 ≡ getD t i 0
-  entry-kept none = ap (λ (u : List ℕ). getD u i 0) so ∙ tables-kept s i ls t (none-reach i ls none)
+  entry-kept none = ap (λ (u : List ℕ). getD u i 0) so ∙ tables-kept s i ls t (no-line-reaches i ls none)
 
 pub last-word-fills : LastWordFills
 last-word-fills list m m′ r n h e i =

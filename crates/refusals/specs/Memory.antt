@@ -8,5 +8,6 @@ pub record Memory : Type 0 where
   pub a : List ℕ
   pub buffer : List ℕ
 
+-- From its three parts.
 abbrev pub memory : (b a buffer : List ℕ) → Memory
 memory b a buffer = record { b = b; a = a; buffer = buffer }

@@ -38,9 +38,9 @@ tables-append : (s : Side) (ls ks : List (List ℕ)) (t : List ℕ)
 tables-append s [] ks t = refl
 tables-append s (l ∷ ls) ks t = tables-append s ls ks (tableAfter s (lineRead l) t)
 
--- No accepted word of the lines has i letters or more.
-abbrev pub NoneReach : ℕ → List (List ℕ) → Type 0
-NoneReach i ls = (k : ℕ) (l : List ℕ) (w : Word) → At ls k l → lineRead l ≡ accepted w → length w < i
+-- No line is read as a word of i letters or more.
+abbrev pub NoLineReaches : ℕ → List (List ℕ) → Type 0
+NoLineReaches i ls = (k : ℕ) (l : List ℕ) (w : Word) → At ls k l → lineRead l ≡ accepted w → length w < i
 
 module _ (s : Side) (i : ℕ) where
   -- A word of fewer letters leaves entry i, and so does a refused one.
@@ -51,7 +51,7 @@ module _ (s : Side) (i : ℕ) where
   table-kept (refused n p) t few = refl
 
   -- Lines that do not reach entry i leave it.
-  pub tables-kept : (ls : List (List ℕ)) (t : List ℕ) → NoneReach i ls → getD (tablesThen s ls t) i 0 ≡ getD t i 0
+  pub tables-kept : (ls : List (List ℕ)) (t : List ℕ) → NoLineReaches i ls → getD (tablesThen s ls t) i 0 ≡ getD t i 0
   tables-kept [] t none = refl
   tables-kept (l ∷ ls) t none =
       tables-kept ls (tableAfter s (lineRead l) t) (λ k l′ w at e. none (suc k) l′ w at e)
@@ -59,7 +59,7 @@ module _ (s : Side) (i : ℕ) where
 
   -- The last line that reaches entry i gives it.
   pub tables-last : (before behind : List (List ℕ)) (l : List ℕ) (w : Word) (t : List ℕ) → lineRead l ≡ accepted w
-      → i ≤ length w → NoneReach i behind
+      → i ≤ length w → NoLineReaches i behind
       → getD (tablesThen s (before ++ (l ∷ behind)) t) i 0 ≡ exponent s (formOf w) i
   tables-last before behind l w t e reached none =
       let u = tablesThen s before t in
