@@ -40,6 +40,7 @@ static void null_pointers(void) {
     row("record to tree pair, no record", thompson_record_to_tree_pair(0, 0, 0, 0, 0, 0), 3, 0);
     row("record to tree pair, identity, no buffers", thompson_record_to_tree_pair(identity, 6, 0, 0, 0, 0), 7, 0);
     row("record to length, no record", thompson_record_to_length(0, 0), 3, 0);
+    row("record to label length, no record", thompson_record_to_label_length(0, 0), 3, 0);
     row("two words, no words",
         thompson_same_element(0, 0, b_table, 1, a_table, 1, record, 6, 0, 0, b_table2, 1, a_table2, 1, record2, 6), 0,
         1);

@@ -1,6 +1,6 @@
-/* A program in C over libthompson.a: for each word on the command line its record, its tree pair and its length, a word
-   that the record spells, its text in subscript notation, and its entry in a register of the words before it, each word
-   with a holder of its own; then the records of all words in one call.
+/* A program in C over libthompson.a: for each word on the command line its record, its tree pair, its length and the
+   same by Table 1, a word that the record spells, its text in subscript notation, and its entry in a register of the
+   words before it, each word with a holder of its own; then the records of all words in one call.
        words abA ba */
 #include "thompson.h"
 
@@ -51,6 +51,8 @@ static void print_word(const char *word, uint16_t holder) {
     }
     thompson_answer length = thompson_record_to_length(record, written.value);
     if (accepted("length", length)) printf("  length %" PRIu64 "\n", length.value);
+    thompson_answer labels = thompson_record_to_label_length(record, written.value);
+    if (accepted("length by Table 1", labels)) printf("  by Table 1 %" PRIu64 "\n", labels.value);
     thompson_answer spelled = thompson_record_to_word(record, written.value, letters, sizeof letters);
     if (accepted("spelling", spelled)) printf("  spelled %.*s\n", (int)spelled.value, (const char *)letters);
     thompson_answer noted = thompson_record_to_text(record, written.value, text, sizeof text);

@@ -1,8 +1,8 @@
-// A program in Rust over libthompson.a: for each word on the command line its record, its tree pair and its length, a
-// word that the record spells, its text in subscript notation, and its entry in a register of the words before it, each
-// word with a holder of its own; then the records of all words in one call. The module `thompson` is a safe face of the
-// calls: a Rust slice is a valid pointer with its length, and a `&mut` slice overlaps nothing else, which is all that
-// the calls ask.
+// A program in Rust over libthompson.a: for each word on the command line its record, its tree pair, its length and the
+// same by Table 1, a word that the record spells, its text in subscript notation, and its entry in a register of the
+// words before it, each word with a holder of its own; then the records of all words in one call. The module `thompson`
+// is a safe face of the calls: a Rust slice is a valid pointer with its length, and a `&mut` slice overlaps nothing
+// else, which is all that the calls ask.
 //     words abA ba
 
 mod thompson {
@@ -72,6 +72,7 @@ mod thompson {
             t_plus_size: usize,
         ) -> Answer;
         fn thompson_record_to_length(record: *const u8, record_size: usize) -> Answer;
+        fn thompson_record_to_label_length(record: *const u8, record_size: usize) -> Answer;
         fn thompson_enter_word(
             word: *const u8,
             letters: usize,
@@ -235,6 +236,11 @@ mod thompson {
     pub fn length(record: &[u8]) -> Result<usize, Refused> {
         value(unsafe { thompson_record_to_length(record.as_ptr(), record.len()) })
     }
+
+    // The same by Table 1.
+    pub fn label_length(record: &[u8]) -> Result<usize, Refused> {
+        value(unsafe { thompson_record_to_label_length(record.as_ptr(), record.len()) })
+    }
 }
 
 use std::io::Write;
@@ -274,6 +280,10 @@ fn print_word(word: &[u8], holder: u16, register: &mut [u8]) {
     match thompson::length(&record) {
         Ok(length) => println!("  length {length}"),
         Err(refused) => print_refused("length", refused),
+    }
+    match thompson::label_length(&record) {
+        Ok(length) => println!("  by Table 1 {length}"),
+        Err(refused) => print_refused("length by Table 1", refused),
     }
     match thompson::word(&record) {
         Ok(letters) => print_bytes("  spelled", &letters),

@@ -173,6 +173,12 @@ thompson_answer thompson_record_to_tree_pair(const uint8_t *record, size_t recor
    Refusals, in this order: 3, 4, 5. */
 thompson_answer thompson_record_to_length(const uint8_t *record, size_t record_size);
 
+/* Record to length by Table 1 of Elder, Fusy and Rechnitzer, over the labels of the carets. Nothing is written.
+   Lent: the record.
+   Value: the length, the same number as that of thompson_record_to_length.
+   Refusals, in this order: 3, 4, 5. */
+thompson_answer thompson_record_to_label_length(const uint8_t *record, size_t record_size);
+
 /* Two words: the same element or not.
    Lent, for each word: what thompson_word_to_record takes; it is left as that call leaves it.
    Value: 1 where the words are the same element, 0 where they are not.

@@ -24,7 +24,8 @@ use Rattle.notation.specs.Contracts.{TextRecorded, TextWritten}
 use Rattle.words.specs.Recording.{encodeWord, Recorded}
 use Rattle.comparisons.specs.Comparing.{Decision, decisionOf, Compared}
 use Rattle.comparisons.specs.declared.Comparison.{Comparison}
-use Rattle.pairs.specs.Contracts.{Paired, Measured}
+use Rattle.lengths.specs.Weights.{formLength}
+use Rattle.pairs.specs.Contracts.{Paired, labelSum, Measured}
 use Rattle.spelling.specs.Contracts.{Spelled}
 use Rattle.spelling.specs.Spelling.{spelling}
 use Rattle.claims.specs.Answers.{Answered}
@@ -77,10 +78,16 @@ record-to-tree-pair {s} {p} {q} {p′} {q′} {r} h =
       });
     }
 
-record-to-length : {s : List ℕ} {r : Reply} → Measured s r → RecordToLength s (replyOf r)
+record-to-length : {s : List ℕ} {r : Reply} → Measured formLength s r → RecordToLength s (replyOf r)
 record-to-length {s} {r} h = record {
   refuses = demand1 .record-to-length s r h;
   gives = λ n e. demand2 .gives-length s (record { answer = r; count = n; contract = h; taken = e });
+}
+
+record-to-label-length : {s : List ℕ} {r : Reply} → Measured labelSum s r → RecordToLength s (replyOf r)
+record-to-label-length {s} {r} h = record {
+  refuses = demand1 .record-to-label-length s r h;
+  gives = λ n e. demand2 .gives-label-length s (record { answer = r; count = n; contract = h; taken = e });
 }
 
 record-to-word : {s t t′ : List ℕ} {r : Reply} → Spelled s t t′ r → RecordToWord s t t′ (replyOf r)
@@ -139,6 +146,7 @@ demanded = record {
   check-record = always-below (calls .check-record) (λ κs s s′ r. check-record);
   record-to-tree-pair = always-below (calls .record-to-tree-pair) (λ κs s s′ p p′ q q′ r. record-to-tree-pair);
   record-to-length = always-below (calls .record-to-length) (λ κs s s′ r. record-to-length);
+  record-to-label-length = always-below (calls .record-to-label-length) (λ κs s s′ r. record-to-label-length);
   record-to-word = always-below (calls .record-to-word) (λ κs s s′ t t′ r. record-to-word);
   same-element =
       always-below (calls .same-element) (λ κs u u′ b b′ a a′ e e′ v v′ c c′ d d′ g g′ r. same-element);
@@ -164,6 +172,9 @@ demanded-of-exports = record {
   record-to-length = always-below (exports .record-to-length) (λ κs s s′ r h.
       let x = exports-answer-as-calls .record-to-length (now s) r h in
       subst (λ (o : Outcome ℕ). RecordToLength (now s) o) (sym (x .2)) (record-to-length (x .1)));
+  record-to-label-length = always-below (exports .record-to-label-length) (λ κs s s′ r h.
+      let x = exports-answer-as-calls .record-to-label-length (now s) r h in
+      subst (λ (o : Outcome ℕ). RecordToLength (now s) o) (sym (x .2)) (record-to-label-length (x .1)));
   record-to-word = always-below (exports .record-to-word) (λ κs s s′ t t′ r h.
       let x = exports-answer-as-calls .record-to-word (now s) (now t) (now t′) r h in
       subst (λ (o : Outcome ℕ). RecordToWord (now s) (now t) (now t′) o) (sym (x .2)) (record-to-word (x .1)));

@@ -2,7 +2,7 @@
 -- with its relation. A field names the function's own code, `routine`, and the relation, so that with another contract,
 -- or with a demand on its caller, the function has no proof here. `now x` is what stands behind the reference x: of a
 -- slice its elements. proofs/Calls.antt has the proofs, which are the functions' theorems.
---     Calls     the calls of document 01, of 02, [1], [3] and [4], and of the receipt program
+--     Calls     the calls of document 01, of 02, [1], [3], [4] and [5], and of the receipt program
 --     Exports   the calls for C and Rust
 -- Assumes nothing.
 use mathlib.Core.Path.{_≡_}
@@ -13,7 +13,8 @@ use Rattle.records.specs.Checking.{Checked}
 use Rattle.words.specs.Recording.{Recorded}
 use Rattle.comparisons.specs.Comparing.{Compared, decisionOf}
 use Rattle.wordlists.specs.Listing.{Listed}
-use Rattle.pairs.specs.Contracts.{Paired, Measured}
+use Rattle.lengths.specs.Weights.{formLength}
+use Rattle.pairs.specs.Contracts.{Paired, labelSum, Measured}
 use Rattle.spelling.specs.Contracts.{Spelled}
 use Rattle.notation.specs.Contracts.{TextRecorded, TextWritten}
 use Rattle.registers.specs.Finding.{found}
@@ -29,6 +30,7 @@ use Rattle.wordlists.proofs.list_to_records as list-to-records
 use Rattle.records.proofs.check_record as check-record
 use Rattle.pairs.proofs.record_to_tree_pair as record-to-tree-pair
 use Rattle.pairs.proofs.record_to_length as record-to-length
+use Rattle.pairs.proofs.record_to_label_length as record-to-label-length
 use Rattle.spelling.proofs.record_to_word as record-to-word
 use Rattle.notation.proofs.text_to_record as text-to-record
 use Rattle.notation.proofs.record_to_text as record-to-text
@@ -47,6 +49,7 @@ use Rattle.thompson.proofs.thompson_list_to_records as thompson-list-to-records
 use Rattle.thompson.proofs.thompson_check_record as thompson-check-record
 use Rattle.thompson.proofs.thompson_record_to_tree_pair as thompson-record-to-tree-pair
 use Rattle.thompson.proofs.thompson_record_to_length as thompson-record-to-length
+use Rattle.thompson.proofs.thompson_record_to_label_length as thompson-record-to-label-length
 use Rattle.thompson.proofs.thompson_record_to_word as thompson-record-to-word
 use Rattle.thompson.proofs.thompson_text_to_record as thompson-text-to-record
 use Rattle.thompson.proofs.thompson_record_to_text as thompson-record-to-text
@@ -66,7 +69,9 @@ pub record Calls : Type 2 where
   pub record-to-tree-pair : Always record-to-tree-pair.ended record-to-tree-pair.Symbol.routine
       (λ κs s s′ p p′ q q′ r. Paired (now s) (now p) (now q) (now p′) (now q′) r)
   pub record-to-length : Always record-to-length.ended record-to-length.Symbol.routine
-      (λ κs s s′ r. Measured (now s) r)
+      (λ κs s s′ r. Measured formLength (now s) r)
+  pub record-to-label-length : Always record-to-label-length.ended record-to-label-length.Symbol.routine
+      (λ κs s s′ r. Measured labelSum (now s) r)
   pub record-to-word : Always record-to-word.ended record-to-word.Symbol.routine
       (λ κs s s′ t t′ r. Spelled (now s) (now t) (now t′) r)
   pub same-element : Always same-element.ended same-element.Symbol.routine
@@ -108,7 +113,10 @@ pub record Exports : Type 2 where
   pub record-to-tree-pair : Always thompson-record-to-tree-pair.ended thompson-record-to-tree-pair.Symbol.routine
       (λ κs s s′ p p′ q q′ r. Passed (λ x. codeOf (replyOf x)) (Paired (now s) (now p) (now q) (now p′) (now q′)) r)
   pub record-to-length : Always thompson-record-to-length.ended thompson-record-to-length.Symbol.routine
-      (λ κs s s′ r. Passed (λ x. codeOf (replyOf x)) (Measured (now s)) r)
+      (λ κs s s′ r. Passed (λ x. codeOf (replyOf x)) (Measured formLength (now s)) r)
+  pub record-to-label-length : Always thompson-record-to-label-length.ended
+      thompson-record-to-label-length.Symbol.routine
+      (λ κs s s′ r. Passed (λ x. codeOf (replyOf x)) (Measured labelSum (now s)) r)
   pub record-to-word : Always thompson-record-to-word.ended thompson-record-to-word.Symbol.routine
       (λ κs s s′ t t′ r. Passed (λ x. codeOf (replyOf x)) (Spelled (now s) (now t) (now t′)) r)
   pub same-element : Always thompson-same-element.ended thompson-same-element.Symbol.routine

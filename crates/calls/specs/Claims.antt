@@ -17,6 +17,7 @@ use Rattle.claims.specs.Trees.{LeavesAndCarets, PairOfForm, EveryPairIsForm, No
 use Rattle.claims.specs.Trees.{KindsOfCarets, SymmetricWeights, LengthIsSum}
 use Rattle.claims.specs.Lengths.{LengthIsLeast, LetterChangesByOne, SomeLetterLowers, ZeroIsIdentity, LengthIsReached}
 use Rattle.claims.specs.Lengths.{NoShorterWord, FewCarets, LabelsGiveLength, NarrowSum}
+use Rattle.claims.specs.Lengths.{OneReading, LabelsOfCarets, TableOne, LabelLengthIsSum, SecondEngine}
 use Rattle.claims.specs.Spellings.{DeletingEnds, FormsAreSpelled, SpellingHasLength}
 use Rattle.claims.specs.Texts.{DecimalsAreNumerals, TextsAreTokens, TextsAreLetters}
 use Rattle.claims.specs.Lists.{ListIsCalls, SomeCalls, LastWordFills, ListRecordsJoined}
@@ -78,7 +79,7 @@ pub record Claims : Type 2 where
   pub kinds-of-carets : KindsOfCarets
   pub symmetric-weights : SymmetricWeights
   pub length-is-sum : LengthIsSum
-  -- The length is the least number of letters, and 16 bits hold it: claims, Lengths.
+  -- The length is the least number of letters, 16 bits hold it, and Table 1 gives it: claims, Lengths.
   pub length-is-least : LengthIsLeast
   pub letter-changes-by-one : LetterChangesByOne
   pub some-letter-lowers : SomeLetterLowers
@@ -88,6 +89,11 @@ pub record Claims : Type 2 where
   pub few-carets : FewCarets
   pub labels-give-length : LabelsGiveLength
   pub narrow-sum : NarrowSum
+  pub one-reading : OneReading
+  pub labels-of-carets : LabelsOfCarets
+  pub table-one : TableOne
+  pub label-length-is-sum : LabelLengthIsSum
+  pub second-engine : SecondEngine
   -- Spellings: claims, Spellings.
   pub deleting-ends : DeletingEnds
   pub forms-are-spelled : FormsAreSpelled

@@ -1,6 +1,6 @@
--- The three demands of document 01, with the calls of 02, [1], said of the functions themselves and of the exports for
--- C and Rust: of what is lent to a call, of what it leaves, and of its answer. No contract stands in it. Read this file
--- first; docs/DECISIONS.md quotes the demands as they were set. proofs/Demanded.antt has the proofs.
+-- The three demands of document 01, with the calls of 02, [1] and [5], said of the functions themselves and of the
+-- exports for C and Rust: of what is lent to a call, of what it leaves, and of its answer. No contract stands in it.
+-- Read this file first; docs/DECISIONS.md quotes the demands as they were set. proofs/Demanded.antt has the proofs.
 --     Always T f R      every call of the function f, on any arguments, returns, with R of its arguments as they were
 --                       and as they are at exit, and of its answer; nothing is asked of the caller
 -- Letters: u, v bytes lent as a word; w, x words; s bytes lent as a record; m, k memory lent with a word or a text: b
@@ -58,6 +58,7 @@ use Rattle.comparisons.proofs.same_element as same-element
 use Rattle.records.proofs.check_record as check-record
 use Rattle.pairs.proofs.record_to_tree_pair as record-to-tree-pair
 use Rattle.pairs.proofs.record_to_length as record-to-length
+use Rattle.pairs.proofs.record_to_label_length as record-to-label-length
 use Rattle.spelling.proofs.record_to_word as record-to-word
 use Rattle.notation.proofs.text_to_record as text-to-record
 use Rattle.notation.proofs.record_to_text as record-to-text
@@ -66,6 +67,7 @@ use Rattle.thompson.proofs.thompson_same_element as thompson-same-element
 use Rattle.thompson.proofs.thompson_check_record as thompson-check-record
 use Rattle.thompson.proofs.thompson_record_to_tree_pair as thompson-record-to-tree-pair
 use Rattle.thompson.proofs.thompson_record_to_length as thompson-record-to-length
+use Rattle.thompson.proofs.thompson_record_to_label_length as thompson-record-to-label-length
 use Rattle.thompson.proofs.thompson_record_to_word as thompson-record-to-word
 use Rattle.thompson.proofs.thompson_text_to_record as thompson-text-to-record
 use Rattle.thompson.proofs.thompson_record_to_text as thompson-record-to-text
@@ -87,7 +89,7 @@ pub record RecordToTreePair (s p q p′ q′ : List ℕ) (o : Outcome ℕ) : Typ
   pub unaltered : IsRefused o → (p′ ≡ p) × (q′ ≡ q)
   pub gives : (n : ℕ) → o ≡ accepted n → PairOfRecord s p q p′ q′ n
 
--- Record to length; nothing is lent to write to.
+-- Record to length, also by Table 1; nothing is lent to write to.
 pub record RecordToLength (s : List ℕ) (o : Outcome ℕ) : Type 0 where
   pub refuses : Refuses o (RecordRefusal s)
   pub gives : (n : ℕ) → o ≡ accepted n → LengthOfRecord s n
@@ -117,7 +119,7 @@ pub record TwoWords (u : List ℕ) (m m′ : Memory) (v : List ℕ) (k k′ : Me
   pub unaltered : WordRefused o → (m′ ≡ m) × (k′ ≡ k)
   pub gives : Answered o → VerdictOfWords u m m′ v k k′ o
 
--- Demands 1 and 2 of the eight functions.
+-- Demands 1 and 2 of the nine functions.
 pub record Demanded : Type 2 where
   pub word-to-record : Always word-to-record.ended word-to-record.Symbol.routine
       (λ κs u u′ b b′ a a′ e e′ r. WordToRecord (now u) (memory (now b) (now a) (now e))
@@ -127,6 +129,8 @@ pub record Demanded : Type 2 where
   pub record-to-tree-pair : Always record-to-tree-pair.ended record-to-tree-pair.Symbol.routine
       (λ κs s s′ p p′ q q′ r. RecordToTreePair (now s) (now p) (now q) (now p′) (now q′) (replyOf r))
   pub record-to-length : Always record-to-length.ended record-to-length.Symbol.routine
+      (λ κs s s′ r. RecordToLength (now s) (replyOf r))
+  pub record-to-label-length : Always record-to-label-length.ended record-to-label-length.Symbol.routine
       (λ κs s s′ r. RecordToLength (now s) (replyOf r))
   pub record-to-word : Always record-to-word.ended record-to-word.Symbol.routine
       (λ κs s s′ t t′ r. RecordToWord (now s) (now t) (now t′) (replyOf r))
@@ -151,6 +155,8 @@ pub record DemandedOfExports : Type 2 where
       (λ κs s s′ p p′ q q′ r. RecordToTreePair (now s) (now p) (now q) (now p′) (now q′) (outcomeOf r))
   pub record-to-length : Always thompson-record-to-length.ended thompson-record-to-length.Symbol.routine
       (λ κs s s′ r. RecordToLength (now s) (outcomeOf r))
+  pub record-to-label-length : Always thompson-record-to-label-length.ended
+      thompson-record-to-label-length.Symbol.routine (λ κs s s′ r. RecordToLength (now s) (outcomeOf r))
   pub record-to-word : Always thompson-record-to-word.ended thompson-record-to-word.Symbol.routine
       (λ κs s s′ t t′ r. RecordToWord (now s) (now t) (now t′) (outcomeOf r))
   pub same-element : Always thompson-same-element.ended thompson-same-element.Symbol.routine

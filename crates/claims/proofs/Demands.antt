@@ -15,7 +15,7 @@ use Rattle.refusals.specs.Memory.{Memory}
 use Rattle.records.specs.Format.{IsRecord}
 use Rattle.records.specs.Reading.{decode}
 use Rattle.records.specs.Checking.{Checked}
-use Rattle.lengths.specs.Weights.{formLength}
+use Rattle.geodesics.proofs.LabelSums.{form-labels}
 use Rattle.words.specs.Recording.{encodeWord, judgedWith, Recorded}
 use Rattle.comparisons.specs.Comparing.{decisionOf, same, different}
 use Rattle.registers.specs.Reading.{readRegister}
@@ -34,7 +34,7 @@ use Rattle.claims.proofs.Refusals.{judged↔refusal, no-refusal↔none,
 use Rattle.claims.proofs.Written.{Listed, listed↔joined, listed-form}
 use Rattle.claims.proofs.WordCalls.{left-refused, call-of, call-keeps-map}
 use Rattle.claims.proofs.TwoWordCalls.{two-refused, own-calls, two-decided}
-use Rattle.claims.proofs.PairCalls.{pair-refused, pair-gives, length-gives}
+use Rattle.claims.proofs.PairCalls.{pair-refused, pair-gives, length-refused, length-gives}
 use Rattle.claims.proofs.SpellingCalls.{spelling-refused, spelled-as, word-of-record}
 use Rattle.claims.proofs.SpellingCalls.{joined-spelling, spelling-sent, spelling-again}
 use Rattle.claims.proofs.TextRefusals.{no-text-refusal↔none}
@@ -116,8 +116,8 @@ demand1 = record {
   word-to-record = λ u m m′ r. word-refused;
   check-record = λ s r. check-refused;
   record-to-tree-pair = λ s p q p′ q′ r. pair-refused;
-  record-to-length = λ s r h.
-      refuses-when formLength (decode s) (h .result) (RecordRefusal s) (decoded↔refusal s (h .are-bytes));
+  record-to-length = λ s r. length-refused;
+  record-to-label-length = λ s r. length-refused;
   record-to-word = λ s t t′ r. spelling-refused;
   same-element = two-refused;
   accepted-word = no-refusal↔none;
@@ -136,7 +136,8 @@ demand2 = record {
   is-word = λ u m m′ r n h e. let call = call-of h e in (call .word, call .bytes);
   keeps-map = λ w f. call-keeps-map (f .contract) (f .taken) refl;
   gives-pair = λ s f. pair-gives (f .contract) (f .count) (f .taken);
-  gives-length = λ s f. length-gives s (f .answer) (f .count) (f .contract) (f .taken);
+  gives-length = λ s f. length-gives (λ g. refl) (f .contract) (f .count) (f .taken);
+  gives-label-length = λ s f. length-gives form-labels (f .contract) (f .count) (f .taken);
   gives-word = λ s t t′ r. word-of-record;
   joined = spelling-joins;
   accepted-again = λ s g m. spelling-sent m (spelled-as (g .contract) (g .taken) .1);

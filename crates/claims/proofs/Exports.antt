@@ -12,6 +12,7 @@ exports-answer-as-calls = record {
   record-to-tree-pair =
       λ s p q p′ q′ a h. (h .passed, h .meets, ap outcomeOf (h .numbers) ∙ reply-read (h .passed));
   record-to-length = λ s a h. (h .passed, h .meets, ap outcomeOf (h .numbers) ∙ reply-read (h .passed));
+  record-to-label-length = λ s a h. (h .passed, h .meets, ap outcomeOf (h .numbers) ∙ reply-read (h .passed));
   record-to-word = λ s t t′ a h. (h .passed, h .meets, ap outcomeOf (h .numbers) ∙ reply-read (h .passed));
   same-element =
       λ u v m m′ k k′ a h. (h .passed, h .meets, ap decisionIn (h .numbers) ∙ comparison-read (h .passed));

@@ -1,9 +1,12 @@
 -- The claims of specs/Lengths.antt, proved. Assumes nothing.
-use mathlib.Core.Path.{_≡_, refl, sym, ap, _∙_}
+use mathlib.Core.Path.{_≡_, refl, sym, ap, ap₂, _∙_}
 use mathlib.Core.List.{List}
-use Prim.Native.Nat.{ℕ, _≤_}
+use mathlib.Core.Logic.{_↔_}
+use Prim.Native.Nat.{ℕ, suc, _≤_}
 use native.Mathlib.Omega.{arith}
 use lib.ListN.{length}
+use Rattle.lists.specs.Entries.{At}
+use Rattle.lists.proofs.Entries.{at-same-list}
 use Rattle.group.specs.Letters.{Word}
 use Rattle.group.specs.Chains.{Joined}
 use Rattle.group.specs.Forms.{Form, letters}
@@ -12,22 +15,31 @@ use Rattle.group.specs.Products.{formOf}
 use Rattle.group.proofs.Congruence.{joined-sym}
 use Rattle.group.proofs.Products.{form-joined}
 use Rattle.group.proofs.Theorems.{the-form-joined, forms↔joined, joined↔maps}
-use Rattle.refusals.specs.Outcomes.{accepted}
+use Rattle.refusals.specs.Outcomes.{Outcome, accepted, refused, valued}
 use Rattle.refusals.proofs.Outcomes.{accepted-same, valued-accepted}
 use Rattle.records.specs.Format.{IsRecord}
 use Rattle.records.specs.Reading.{decode}
 use Rattle.records.proofs.Accepted.{decode-form, record-decoded}
 use Rattle.records.proofs.ClearedTables.{within-levels}
+use Rattle.trees.specs.Trees.{Tree}
+use Rattle.lengths.specs.Labels.{Label, IsLabel, labels}
 use Rattle.lengths.specs.Weights.{formLength}
+use Rattle.lengths.proofs.CaretLabels.{label-at, one-label}
 use Rattle.lengths.proofs.PairBounds.{pair-narrow}
 use Rattle.lengths.proofs.FormBounds.{form-most}
+use Rattle.geodesics.specs.Table1.{tableSum}
+use Rattle.geodesics.proofs.TreeRows.{tree-row}
 use Rattle.geodesics.proofs.LabelSums.{form-labels}
 use Rattle.geodesics.proofs.CaretBound.{form-carets}
 use Rattle.geodesics.proofs.WordLengths.{behind-by-one, behind-lowers, zero-length}
 use Rattle.geodesics.proofs.ShortestWords.{shortest-word, shortest-least}
+use Rattle.scans.specs.Table.{numberOf}
+use Rattle.scans.proofs.Constant.{number-lt, entry-label, entry-symmetric}
+use Rattle.pairs.specs.Contracts.{labelSum}
 use Rattle.claims.specs.Calls.{LengthCall, recordBy}
 use Rattle.claims.specs.Lengths.{LengthIsLeast, LetterChangesByOne, SomeLetterLowers, ZeroIsIdentity}
 use Rattle.claims.specs.Lengths.{LengthIsReached, NoShorterWord, FewCarets, LabelsGiveLength, NarrowSum}
+use Rattle.claims.specs.Lengths.{OneReading, LabelsOfCarets, TableOne, LabelLengthIsSum, SecondEngine}
 use Rattle.claims.proofs.Written.{listed-record}
 use Rattle.claims.proofs.TextCalls.{call-listed}
 
@@ -91,3 +103,39 @@ length-is-least = record {
   of-word = λ w g c.
       least (recordBy g) c (formOf w) (listed-record w (call-listed w g)) w (joined-sym (form-joined w));
 }
+
+pub one-reading : OneReading
+one-reading t n h = sym (tree-row t n h)
+
+pub labels-of-carets : LabelsOfCarets
+labels-of-carets = record { one = one-label; listed = label-at }
+
+pub table-one : TableOne
+table-one = record {
+  row-I = refl;
+  row-N = refl;
+  row-L = refl;
+  row-R = refl;
+  row-X = refl;
+  symmetric = λ x y.
+      let entries = entry-symmetric (numberOf x) (numberOf y) (number-lt x) (number-lt y) in
+      sym (entry-label x y) ∙ entries ∙ entry-label y x;
+  constant = entry-label;
+}
+
+pub label-length-is-sum : LabelLengthIsSum
+label-length-is-sum t s xs ys hx hy = ap₂ tableSum (same t xs hx) (same s ys hy)
+  where
+    same : (u : Tree) (zs : List Label) → ((k : ℕ) (x : Label) → At zs k x ↔ IsLabel u (suc k) x) → labels u ≡ zs
+    same u zs h =
+        at-same-list (labels u) zs (λ k x. (
+          (λ a. h k x .1 (label-at u k x .1 a)),
+          λ a. label-at u k x .0 (h k x .0 a),
+        ))
+
+pub second-engine : SecondEngine
+second-engine s = go (decode s)
+  where
+    go : (o : Outcome Form) → valued labelSum o ≡ valued formLength o
+    go (accepted f) = ap accepted (form-labels f)
+    go (refused n q) = refl

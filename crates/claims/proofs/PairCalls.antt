@@ -1,4 +1,5 @@
--- The calls of record to tree pair and record to length: what they refuse and what they give. Assumes nothing.
+-- The calls of record to tree pair and record to length, also by Table 1: what they refuse and what they give.
+-- Assumes nothing.
 use mathlib.Core.Path.{_≡_, refl, sym, ap, ap₂, _∙_, subst}
 use mathlib.Core.List.{List}
 use mathlib.Core.Logic.{_⊎_, inl, inr, _↔_}
@@ -28,7 +29,7 @@ use Rattle.lengths.proofs.CaretKinds.{kind-at}
 use Rattle.pairs.specs.Contracts.{pairedIn, treeAfter, Paired, Measured}
 use Rattle.refusals.specs.declared.Reply.{Reply}
 use Rattle.pairs.proofs.Tables.{carets-most}
-use Rattle.claims.specs.Refusals.{ShortShape, PairRefusal, unread, shortShape}
+use Rattle.claims.specs.Refusals.{RecordRefusal, ShortShape, PairRefusal, unread, shortShape}
 use Rattle.claims.specs.Answers.{IsRefused, Refuses}
 use Rattle.claims.specs.Given.{PairOfRecord, LengthOfRecord}
 use Rattle.claims.proofs.Answers.{is-refused, refuses-when}
@@ -177,11 +178,17 @@ module _ {s m p m′ p′ : List ℕ} {r : Reply} (h : Paired s m p m′ p′ r)
           let same : caretsOf f ≡ n = accepted-same (sym (h .result ∙ ap (valued caretsOf) o) ∙ a) in
           subst (λ (k : ℕ). PairOfRecord s m p m′ p′ k) same (of-record f e o hm hp)
 
--- The length is that of the kinds of the pair's carets.
-pub length-gives : (s : List ℕ) (r : Reply) (n : ℕ) → Measured s r → replyOf r ≡ accepted n
-    → LengthOfRecord s n
-length-gives s r n h a =
-    let x = valued-accepted formLength (decode s) n (sym (h .result) ∙ a) in
+-- Refused as the record is.
+pub length-refused : {count : Form → ℕ} {s : List ℕ} {r : Reply} → Measured count s r
+    → Refuses (replyOf r) (RecordRefusal s)
+length-refused {count} {s} h =
+    refuses-when count (decode s) (h .result) (RecordRefusal s) (decoded↔refusal s (h .are-bytes))
+
+-- The length is that of the kinds of the pair's carets, by any count that gives it.
+pub length-gives : {count : Form → ℕ} {s : List ℕ} {r : Reply} → ((f : Form) → count f ≡ formLength f)
+    → Measured count s r → (n : ℕ) → replyOf r ≡ accepted n → LengthOfRecord s n
+length-gives {count} {s} same h n a =
+    let x = valued-accepted count (decode s) n (sym (h .result) ∙ a) in
     let f : Form = x .0 in
     record {
       form = f;
@@ -193,5 +200,5 @@ length-gives s r n h a =
       plus-kinds = kinds (plusTree f);
       minus-are = λ k y. (kind-at (minusTree f) k y .1, kind-at (minusTree f) k y .0);
       plus-are = λ k y. (kind-at (plusTree f) k y .1, kind-at (plusTree f) k y .0);
-      sum = sym (x .2);
+      sum = sym (x .2) ∙ same f;
     }

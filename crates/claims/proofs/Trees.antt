@@ -16,7 +16,7 @@ use Rattle.group.proofs.Exponents.{exponents-at}
 use Rattle.group.specs.UpTo.{formUpTo}
 use Rattle.group.proofs.UpTo.{upTo-below, upTo-behind}
 use Rattle.trees.specs.Trees.{Tree, carets}
-use Rattle.trees.proofs.Readings.{exponentsOf}
+use Rattle.trees.specs.Readings.{exponentsOf}
 use Rattle.trees.proofs.Exponents.{exponents-length, side-exponents}
 use Rattle.trees.proofs.Leaves.{leaves-length}
 use Rattle.trees.proofs.Carets as Carets

@@ -7,6 +7,7 @@
 --     PhraseCall s        record_to_text on the record s                     phrasedBy c   the text that it wrote
 --     PairCall s          record_to_tree_pair on the record s
 --     LengthCall s        record_to_length on the record s
+--     LabelLengthCall s   record_to_label_length on the record s
 --     TwoWordCall u v     same_element on the bytes u and v, which answered
 --     ExportedCall w      thompson_word_to_record, thompson_text_to_record   exportedRecord c   the record it wrote
 -- Assumes nothing.
@@ -16,6 +17,7 @@ use Prim.Native.Nat.{ℕ}
 use lib.ListN.{take}
 use Rattle.group.specs.Letters.{Word}
 use Rattle.group.specs.Bytes.{bytesOf}
+use Rattle.group.specs.Forms.{Form}
 use Rattle.group.specs.Powers.{SignedPower, productLetters}
 use Rattle.refusals.specs.Outcomes.{accepted, replyOf}
 use Rattle.refusals.specs.declared.Reply.{Reply}
@@ -23,7 +25,8 @@ use Rattle.refusals.specs.Memory.{Memory}
 use Rattle.words.specs.Recording.{Recorded}
 use Rattle.comparisons.specs.Comparing.{Compared, decisionOf}
 use Rattle.comparisons.specs.declared.Comparison.{Comparison}
-use Rattle.pairs.specs.Contracts.{Paired, Measured}
+use Rattle.lengths.specs.Weights.{formLength}
+use Rattle.pairs.specs.Contracts.{Paired, labelSum, Measured}
 use Rattle.spelling.specs.Contracts.{Spelled}
 use Rattle.tokens.specs.Texts.{textOf}
 use Rattle.notation.specs.Contracts.{TextRecorded, TextWritten}
@@ -99,12 +102,20 @@ pub record PairCall (s : List ℕ) : Type 0 where
   pub contract : Paired s lent-minus lent-plus left-minus left-plus answer
   pub taken : replyOf answer ≡ accepted count
 
--- An accepted call of record_to_length.
-pub record LengthCall (s : List ℕ) : Type 0 where
+-- An accepted call that answers what is counted of a record's form.
+pub record MeasureCall (measure : Form → ℕ) (s : List ℕ) : Type 0 where
   pub answer : Reply
   pub count : ℕ
-  pub contract : Measured s answer
+  pub contract : Measured measure s answer
   pub taken : replyOf answer ≡ accepted count
+
+-- An accepted call of record_to_length.
+abbrev pub LengthCall : List ℕ → Type 0
+LengthCall s = MeasureCall formLength s
+
+-- An accepted call of record_to_label_length.
+abbrev pub LabelLengthCall : List ℕ → Type 0
+LabelLengthCall s = MeasureCall labelSum s
 
 -- A call of same_element that answered same or different.
 pub record TwoWordCall (u v : List ℕ) : Type 0 where

@@ -1,11 +1,12 @@
--- Demands 1, 2 and 3 on the eleven calls, over the calls' contracts; proofs/Demands.antt has the proofs. The demands as
+-- Demands 1, 2 and 3 on the twelve calls, over the calls' contracts; proofs/Demands.antt has the proofs. The demands as
 -- they were set are quoted in docs/DECISIONS.md. crates/calls/specs/Demanded.antt says the same of the functions, with
 -- no contract in it.
 -- What need not be believed: contracts (the first group below) stand left of the arrows only. Each function is proved
 -- to meet its contract (crate `calls`), so a reader has to believe what stands on the right, and the order in which a
--- function's `ensures` hands its arguments to the contract. The demands bind the six calls of 01 and the two of 02,
--- [1], their exports too; demand 1 binds the two of 02, [3], and that of 02, [4], as well, and specs/Registers.antt and
--- specs/Lists.antt say what those give. `Unfit`, which functions inside may answer, is met by none of them.
+-- function's `ensures` hands its arguments to the contract. The demands bind the six calls of 01, the two of 02, [1],
+-- and that of 02, [5], their exports too; demand 1 binds the two of 02, [3], and that of 02, [4], as well, and
+-- specs/Registers.antt and specs/Lists.antt say what those give. `Unfit`, which functions inside may answer, is met by
+-- none of them.
 -- Letters: u, v bytes lent as a word; w, x words; s bytes lent as a record or as a register; h a holder; m, k memory
 -- lent with a word, a text or a list; p, q buffers for shapes; t bytes lent as a text, or a buffer for letters; ps
 -- powers; f, g a form or a call; a ′ marks the same memory at exit.
@@ -13,7 +14,8 @@
 --     Recorded u m m′ r           word_to_record                                                  words, Recording
 --     Checked s r                 check_record                                                    records, Checking
 --     Paired s p q p′ q′ r        record_to_tree_pair                                             pairs, Contracts
---     Measured s r                record_to_length                                                pairs, Contracts
+--     Measured formLength s r     record_to_length                                                pairs, Contracts
+--     Measured labelSum s r       record_to_label_length                                          pairs, Contracts
 --     Spelled s t t′ r            record_to_word                                                  spelling, Contracts
 --     Compared u m m′ v k k′ r    same_element                                              comparisons, Comparing
 --     TextRecorded t m m′ r       text_to_record                                                  notation, Contracts
@@ -24,7 +26,8 @@
 -- Calls and answers:
 --     WordCall w, TextCall ps     an accepted call on the bytes of w, on the text of powers ps    claims, Calls
 --     CallOn w, recordBy f        one of both, on the word w; the record that it wrote            claims, Calls
---     SpellingCall, PhraseCall, PairCall, LengthCall s, TwoWordCall u v, ExportedCall w           claims, Calls
+--     SpellingCall, PhraseCall, PairCall, LengthCall, LabelLengthCall s, of a record              claims, Calls
+--     TwoWordCall u v, ExportedCall w    of two words; of an export                               claims, Calls
 --     Reply, Verdict              answer types; replyOf, verdictOf: their outcomes                refusals, Outcomes
 --     Comparison, decisionOf      the answer on two words; same, different, or a refused word   comparisons, Comparing
 --     Entered, numberOfEntered    the answer on a filing; its outcome, with the entry's number    updates, Entering
@@ -64,7 +67,8 @@ use Rattle.refusals.specs.declared.Reply.{Reply}
 use Rattle.refusals.specs.Memory.{Memory}
 use Rattle.records.specs.Format.{IsRecord}
 use Rattle.records.specs.Checking.{Checked}
-use Rattle.pairs.specs.Contracts.{Paired, Measured}
+use Rattle.lengths.specs.Weights.{formLength}
+use Rattle.pairs.specs.Contracts.{Paired, labelSum, Measured}
 use Rattle.spelling.specs.Contracts.{Spelled}
 use Rattle.tokens.specs.Tokens.{AllInRange}
 use Rattle.tokens.specs.Texts.{textOf}
@@ -81,8 +85,8 @@ use Rattle.claims.specs.Refusals.{RecordRefusal, PairRefusal, SpellingRe
 use Rattle.claims.specs.Refusals.{TextRefusal, NoTextRefusal, ShortTables, ShortRecord, PhraseRefusal}
 use Rattle.claims.specs.Answers.{Refuses, IsRefused, IsAccepted, RefusesWords, WordRefused, None}
 use Rattle.claims.specs.Calls.{WordCall, TextCall, CallOn, recordBy, MemoryCall, writtenBy}
-use Rattle.claims.specs.Calls.{SpellingCall, spelledBy, PhraseCall, phrasedBy, PairCall, LengthCall, TwoWordCall}
-use Rattle.claims.specs.Calls.{ExportedCall, exportedRecord}
+use Rattle.claims.specs.Calls.{SpellingCall, spelledBy, PhraseCall, phrasedBy, PairCall}
+use Rattle.claims.specs.Calls.{LengthCall, LabelLengthCall, TwoWordCall, ExportedCall, exportedRecord}
 use Rattle.claims.specs.Given.{RecordOfWord, PairOfRecord, LengthOfRecord, WordOfRecord}
 use Rattle.claims.specs.Given.{RecordOfText, TextOfRecord}
 use Rattle.claims.specs.Registers.{RegisterRefusal, EnterRefusal}
@@ -98,7 +102,8 @@ pub record Demand1 : Type 0 where
   pub record-to-tree-pair : (s p q p′ q′ : List ℕ) (r : Reply) → Paired s p q p′ q′ r
       → Refuses (replyOf r) (PairRefusal s (length p) (length q))
       × (IsRefused (replyOf r) → (p′ ≡ p) × (q′ ≡ q))
-  pub record-to-length : (s : List ℕ) (r : Reply) → Measured s r → Refuses (replyOf r) (RecordRefusal s)
+  pub record-to-length : (s : List ℕ) (r : Reply) → Measured formLength s r → Refuses (replyOf r) (RecordRefusal s)
+  pub record-to-label-length : (s : List ℕ) (r : Reply) → Measured labelSum s r → Refuses (replyOf r) (RecordRefusal s)
   pub record-to-word : (s t t′ : List ℕ) (r : Reply) → Spelled s t t′ r
       → Refuses (replyOf r) (SpellingRefusal s (length t)) × (IsRefused (replyOf r) → t′ ≡ t)
   pub same-element : (u v : List ℕ) (m m′ k k′ : Memory) (r : Comparison) → Compared u m m′ v k k′ r
@@ -120,11 +125,11 @@ pub record Demand1 : Type 0 where
       → Refuses (replyOf r) (ListRefusal list m) × (IsRefused (replyOf r) → m′ ≡ m)
 
 -- Demand 2: the bytes of an accepted word are those of one word, and its record has that word's map. A record gives the
--- tree pair, the length and the spelling of its form. The spelling is joined to every word with that record, and is
--- accepted as a word where tables and buffer are long enough, with that record again. The two-word call, where it
--- answers, leaves the memory of each word as that word's own call does. The bytes of an accepted text are the text of
--- one list of powers, and its record has the map of their letters. The text that is written for a record is accepted
--- where tables and buffer are long enough, with that record again.
+-- tree pair, the length, also by Table 1, and the spelling of its form. The spelling is joined to every word with that
+-- record, and is accepted as a word where tables and buffer are long enough, with that record again. The two-word call,
+-- where it answers, leaves the memory of each word as that word's own call does. The bytes of an accepted text are the
+-- text of one list of powers, and its record has the map of their letters. The text that is written for a record is
+-- accepted where tables and buffer are long enough, with that record again.
 pub record Demand2 : Type 0 where
   pub is-word : (u : List ℕ) (m m′ : Memory) (r : Reply) (n : ℕ) → Recorded u m m′ r → replyOf r ≡ accepted n
       → (w : Word) × (u ≡ bytesOf w)
@@ -132,6 +137,7 @@ pub record Demand2 : Type 0 where
   pub gives-pair : (s : List ℕ) (f : PairCall s)
       → PairOfRecord s (f .lent-minus) (f .lent-plus) (f .left-minus) (f .left-plus) (f .count)
   pub gives-length : (s : List ℕ) (f : LengthCall s) → LengthOfRecord s (f .count)
+  pub gives-label-length : (s : List ℕ) (f : LabelLengthCall s) → LengthOfRecord s (f .count)
   pub gives-word : (s t t′ : List ℕ) (r : Reply) → Spelled s t t′ r → None (RecordRefusal s)
       → WordOfRecord s t t′ (replyOf r)
   pub joined : (w x : Word) (f : CallOn w) (g : SpellingCall (recordBy f)) → spelledBy g ≡ bytesOf x → Joined x w

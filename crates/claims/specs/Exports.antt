@@ -14,7 +14,8 @@ use Rattle.refusals.specs.declared.Verdict.{Verdict}
 use Rattle.refusals.specs.declared.Reply.{Reply}
 use Rattle.refusals.specs.Memory.{Memory}
 use Rattle.records.specs.Checking.{Checked}
-use Rattle.pairs.specs.Contracts.{Paired, Measured}
+use Rattle.lengths.specs.Weights.{formLength}
+use Rattle.pairs.specs.Contracts.{Paired, labelSum, Measured}
 use Rattle.spelling.specs.Contracts.{Spelled}
 use Rattle.notation.specs.Contracts.{TextRecorded, TextWritten}
 use Rattle.words.specs.Recording.{Recorded}
@@ -44,8 +45,10 @@ pub record ExportsAnswerAsCalls : Type 0 where
   pub record-to-tree-pair : (s p q p′ q′ : List ℕ) (a : Answer)
       → Passed (λ r. codeOf (replyOf r)) (Paired s p q p′ q′) a
       → (r : Reply) × Paired s p q p′ q′ r × (outcomeOf a ≡ replyOf r)
-  pub record-to-length : (s : List ℕ) (a : Answer) → Passed (λ r. codeOf (replyOf r)) (Measured s) a
-      → (r : Reply) × Measured s r × (outcomeOf a ≡ replyOf r)
+  pub record-to-length : (s : List ℕ) (a : Answer) → Passed (λ r. codeOf (replyOf r)) (Measured formLength s) a
+      → (r : Reply) × Measured formLength s r × (outcomeOf a ≡ replyOf r)
+  pub record-to-label-length : (s : List ℕ) (a : Answer) → Passed (λ r. codeOf (replyOf r)) (Measured labelSum s) a
+      → (r : Reply) × Measured labelSum s r × (outcomeOf a ≡ replyOf r)
   pub record-to-word : (s t t′ : List ℕ) (a : Answer) → Passed (λ r. codeOf (replyOf r)) (Spelled s t t′) a
       → (r : Reply) × Spelled s t t′ r × (outcomeOf a ≡ replyOf r)
   pub same-element : (u v : List ℕ) (m m′ k k′ : Memory) (a : Answer)

@@ -3,7 +3,7 @@
 --     RecordOfText m m′ n ps        text to record: the powers ps of the text, and the same
 --     TextOfRecord s t t′ n         record to text: the record s, n bytes of text, the buffer at entry and at exit
 --     PairOfRecord s p q p′ q′ n    record to tree pair: the record s, N = n, both buffers at entry and at exit
---     LengthOfRecord s n            record to length: the record s, its length n
+--     LengthOfRecord s n            record to length, also by Table 1: the record s, its length n
 --     WordOfRecord s t t′ o         record to word: the record s, the buffer at entry and at exit, the outcome o
 --     VerdictOfWords u m m′ v k k′ d   two words: the bytes and the memory of each, the decision d
 -- Names used, and where each is defined:
@@ -95,7 +95,7 @@ pub record PairOfRecord (s p q p′ q′ : List ℕ) (n : ℕ) : Type 0 where
   pub same-map : SendsLeaves form minus plus
   pub no-redundant : Redundant minus plus → ⊥
 
--- Record to length: the sum over k of the weight of caret k of T− with caret k of T+ of that pair.
+-- Record to length, also by Table 1: the sum over k of the weight of caret k of T− with caret k of T+ of that pair.
 pub record LengthOfRecord (s : List ℕ) (n : ℕ) : Type 0 where
   pub form : Form
   pub is-record : IsRecord s form

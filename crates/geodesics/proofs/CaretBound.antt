@@ -12,8 +12,9 @@ use Rattle.trees.specs.Building.{needed}
 use Rattle.trees.specs.Pairs.{caretsOf}
 use Rattle.trees.proofs.Needed.{Holds, needed-holds}
 use Rattle.lengths.specs.Weights.{formLength}
-use Rattle.geodesics.proofs.Rows.{first, rest, row, nextOpen, nextLeft, Closed}
-use Rattle.geodesics.proofs.Sides.{fromOne, sidesLength}
+use Rattle.geodesics.specs.Rows.{first, rest, row, nextOpen, nextLeft, fromOne}
+use Rattle.geodesics.specs.inside.Costs.{Closed}
+use Rattle.geodesics.proofs.Sides.{sidesLength}
 use Rattle.geodesics.proofs.Enough.{first-total}
 use Rattle.geodesics.proofs.SideLengths.{length-closed, closed-total, from-total}
 use Rattle.geodesics.proofs.Fordham.{sidesOf, form-length}

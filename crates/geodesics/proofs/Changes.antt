@@ -9,46 +9,13 @@ use mathlib.Core.List.{List, _∷_}
 use Prim.Native.Nat.{ℕ, zero, suc, _+_}
 use native.Mathlib.Nat.{suc-add, zero-add}
 use native.Mathlib.Omega.{arith}
-use Rattle.geodesics.specs.Labels.{'L}
-use Rattle.geodesics.proofs.Columns.{
-  column,
-  ByOne,
-  up,
-  down,
-  by-one-turned,
-  insideLabel,
-  fixed-left,
-  fixed-inside,
-  fixed-by-one,
-}
-use Rattle.geodesics.proofs.Rows.{
-  first,
-  rest,
-  row,
-  labelBy,
-  nextOpen,
-  nextLeft,
-  nextRow,
-  Closed,
-  cost,
-  open-more,
-  closed-more,
-  remaining-swap,
-  cost-closed,
-}
+use Rattle.lengths.specs.Labels.{'L}
+use Rattle.geodesics.specs.inside.Costs.{column, insideLabel, labelBy, Closed, cost}
+use Rattle.geodesics.proofs.Columns.{ByOne, up, down, by-one-turned, fixed-left, fixed-inside, fixed-by-one}
+use Rattle.geodesics.specs.Rows.{first, rest, row, nextOpen, nextLeft, nextRow}
+use Rattle.geodesics.proofs.Rows.{open-more, closed-more, remaining-swap, cost-closed}
 use Rattle.geodesics.proofs.Splits.{split-open, reduce-open}
-use Rattle.geodesics.proofs.Sides.{
-  Sides,
-  sides,
-  putInverseBy,
-  putInverse,
-  putX0By,
-  putX0,
-  Rule,
-  atTree,
-  at-zero,
-  at-next,
-}
+use Rattle.geodesics.proofs.Sides.{Sides, sides, putInverseBy, putInverse, putX0By, putX0, Rule, atTree, at-zero, at-next}
 
 -- Over a caret of the left side it makes no difference what is behind.
 pub over-left : (p l e f s : ℕ) → column (labelBy p l e) 'L s ≡ column (labelBy p l f) 'L s

@@ -6,9 +6,10 @@ use mathlib.Core.Logic.{_⊎_, inl, inr}
 use Prim.Native.Nat.{ℕ, zero, suc, _+_}
 use native.Mathlib.Nat.{add-suc, add-zero}
 use native.Mathlib.Omega.{arith}
-use Rattle.geodesics.specs.Labels.{'L, 'R}
-use Rattle.geodesics.proofs.Columns.{column, sideLabel, insideLabel, fixed-inside, fixed-or}
-use Rattle.geodesics.proofs.Rows.{first, rest, Row, row, rowLabel, nextRow, Closed, cost}
+use Rattle.lengths.specs.Labels.{'L, 'R}
+use Rattle.geodesics.specs.inside.Costs.{column, sideLabel, insideLabel, rowLabel, Closed, cost}
+use Rattle.geodesics.proofs.Columns.{fixed-inside, fixed-or}
+use Rattle.geodesics.specs.Rows.{first, rest, Row, row, nextRow}
 
 -- Two carets of the right side: the sum is 0, or a caret of the left side in the second row lowers it.
 right-column : (e f s : ℕ)

@@ -8,8 +8,10 @@ use mathlib.Core.List.{List, [], _∷_}
 use mathlib.Core.Logic.{_⊎_, inl, inr}
 use Prim.Native.Nat.{ℕ, zero, suc, _+_, _≤_}
 use native.Mathlib.Omega.{arith}
-use Rattle.geodesics.specs.Labels.{Label, 'I, 'N, 'L, 'R, 'X, isR}
-use Rattle.geodesics.proofs.Columns.{column, columns}
+use Rattle.lengths.specs.Labels.{Label, 'I, 'N, 'L, 'R, 'X}
+use Rattle.geodesics.specs.Table1.{isR}
+use Rattle.geodesics.specs.inside.Costs.{column}
+use Rattle.geodesics.proofs.Columns.{columns}
 
 -- A column weighs at least 1, or it is R over R in front of nothing.
 abbrev pub Weighs : Label → Label → ℕ → Type 0

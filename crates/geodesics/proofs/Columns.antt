@@ -1,6 +1,4 @@
--- The sum of Table 1 over columns, column by column (001, Table 1): R over R weighs nothing where the columns behind it
--- weigh nothing. How a column's weight changes with one label.
---     column x y s     x over y in front of columns that weigh s
+-- The sum of Table 1 over columns, column by column (001, Table 1), and how a column's weight changes with one label.
 --     columns xs ys    the sum
 --     ByOne m n        m and n differ by one
 --     Fixed x y        the column adds a number that does not depend on those behind it
@@ -10,20 +8,8 @@ use mathlib.Core.List.{List, [], _∷_}
 use mathlib.Core.Logic.{_⊎_, inl, inr}
 use Prim.Native.Nat.{ℕ, zero, suc, _+_}
 use native.Mathlib.Omega.{arith}
-use Rattle.geodesics.specs.Labels.{Label, 'I, 'N, 'L, 'R, 'X, table1}
-
--- A column in front of columns that weigh s; behind R over R with s = 0 all are R over R, and are dropped with it.
-abbrev pub column : Label → Label → ℕ → ℕ
-column 'I y s = table1 'I y + s
-column 'N y s = table1 'N y + s
-column 'L y s = table1 'L y + s
-column 'X y s = table1 'X y + s
-column 'R 'I s = table1 'R 'I + s
-column 'R 'N s = table1 'R 'N + s
-column 'R 'L s = table1 'R 'L + s
-column 'R 'X s = table1 'R 'X + s
-column 'R 'R zero = zero
-column 'R 'R (suc s) = table1 'R 'R + suc s
+use Rattle.lengths.specs.Labels.{Label, 'I, 'N, 'L, 'R, 'X}
+use Rattle.geodesics.specs.inside.Costs.{sideLabel, insideLabel, column}
 
 -- The sum over columns.
 abbrev pub columns : List Label → List Label → ℕ
@@ -40,16 +26,6 @@ pub data ByOne (m n : ℕ) : Type 0 where
 pub by-one-turned : (m n : ℕ) → ByOne m n → ByOne n m
 by-one-turned m n (up h) = down h
 by-one-turned m n (down h) = up h
-
--- The label of a caret of the right side, by the exponent of the next leaf: X where a caret opens, else R.
-abbrev pub sideLabel : ℕ → Label
-sideLabel zero = 'R
-sideLabel (suc e) = 'X
-
--- The label of an interior caret: N where a caret opens behind it, else I.
-abbrev pub insideLabel : ℕ → Label
-insideLabel zero = 'I
-insideLabel (suc e) = 'N
 
 -- A caret of the left side for one of the right side.
 pub column-left : (y : Label) (e s : ℕ) → ByOne (column y 'L s) (column y (sideLabel e) s)

@@ -8,8 +8,10 @@ use native.Mathlib.Nat.{add-comm, suc-add, zero-add}
 use native.Mathlib.Omega.{arith}
 use lib.ListN.{length}
 use Rattle.lists.specs.Entries.{total}
-use Rattle.geodesics.proofs.Rows.{first, rest, row, Closed, closed-plus, cost-closed}
-use Rattle.geodesics.proofs.Sides.{Sides, fromOne, sumTo, enough, sidesLength}
+use Rattle.geodesics.specs.Rows.{first, rest, row, fromOne}
+use Rattle.geodesics.specs.inside.Costs.{Closed}
+use Rattle.geodesics.proofs.Rows.{closed-plus, cost-closed}
+use Rattle.geodesics.proofs.Sides.{Sides, sumTo, enough, sidesLength}
 use Rattle.geodesics.proofs.LetterChanges.{Fits}
 
 -- A row is closed behind as many carets as its counters, its exponents and its leaves.

@@ -11,19 +11,20 @@ use Rattle.group.specs.Forms.{bSide, aSide, Form, exponents}
 use Rattle.trees.specs.Trees.{Tree, leaf, caret, carets}
 use Rattle.trees.specs.Building.{needed}
 use Rattle.trees.specs.Pairs.{caretsOf, minusTree, plusTree}
-use Rattle.trees.proofs.Readings.{exponentsOf}
+use Rattle.trees.specs.Readings.{exponentsOf}
 use Rattle.trees.proofs.Built.{tree-carets, tree-exponents}
 use Rattle.lengths.specs.Classes.{Class, onLeft, classes}
 use Rattle.lengths.specs.Kinds.{laterKinds, kindsOf}
 use Rattle.lengths.specs.Weights.{weights, pairLength, formLength}
 use Rattle.geodesics.proofs.Columns.{columns}
 use Rattle.geodesics.proofs.ColumnSums.{columns-symmetric}
-use Rattle.geodesics.proofs.Rows.{first, rest, Row, rowLabels, cost-columns}
-use Rattle.geodesics.proofs.Sides.{Sides, sides, fromOne, sumTo, sidesLength}
+use Rattle.geodesics.specs.Rows.{first, rest, Row, fromOne, rowClasses}
+use Rattle.geodesics.proofs.Rows.{rowLabels, cost-columns}
+use Rattle.geodesics.proofs.Sides.{Sides, sides, sumTo, sidesLength}
 use Rattle.geodesics.proofs.Enough.{BothClosed, sum-any}
 use Rattle.geodesics.proofs.SameRows.{length-same}
 use Rattle.geodesics.proofs.TwoTables.{LeftFirst, laterLabels, laterSum, two-tables}
-use Rattle.geodesics.proofs.TreeRows.{rowClasses, row-classes-length, tree-row, tree-closed}
+use Rattle.geodesics.proofs.TreeRows.{row-classes-length, tree-row, tree-closed}
 use Rattle.geodesics.proofs.RowLabels.{row-left-first, row-labels}
 
 -- The lists of exponents of a form.

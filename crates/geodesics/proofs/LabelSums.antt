@@ -1,4 +1,4 @@
--- The sum of Table 1 with the trailing columns R over R dropped, as specs/Labels.antt has it, is Fordham's length.
+-- The sum of Table 1 with the trailing columns R over R dropped, as specs/Table1.antt has it, is Fordham's length.
 -- Assumes nothing.
 use mathlib.Core.Path.{_≡_, refl, sym, _∙_, ap, ap₂, _≡⟨_⟩_, _∎}
 use mathlib.Core.Bool.{Bool, true, false, cond}
@@ -8,29 +8,19 @@ use native.Mathlib.Omega.{arith}
 use Rattle.group.specs.Forms.{Form}
 use Rattle.trees.specs.Trees.{Tree, leaf, caret, carets}
 use Rattle.trees.specs.Pairs.{minusTree, plusTree}
-use Rattle.trees.proofs.Readings.{exponentsOf}
+use Rattle.trees.specs.Readings.{exponentsOf}
 use Rattle.lengths.specs.Classes.{Class}
 use Rattle.lengths.specs.Kinds.{kindsOf}
 use Rattle.lengths.specs.Weights.{pairLength, formLength}
-use Rattle.geodesics.specs.Labels.{
-  Label,
-  'I,
-  'N,
-  'L,
-  'R,
-  'X,
-  labelsOf,
-  behindFirst,
-  labels,
-  allR,
-  tableSum,
-  labelLength,
-}
-use Rattle.geodesics.proofs.Columns.{column, columns}
+use Rattle.lengths.specs.Labels.{Label, 'I, 'N, 'L, 'R, 'X, labelsOf, behindFirst, labels}
+use Rattle.geodesics.specs.Table1.{allR, tableSum, labelLength}
+use Rattle.geodesics.specs.inside.Costs.{column}
+use Rattle.geodesics.proofs.Columns.{columns}
 use Rattle.geodesics.proofs.ColumnSums.{column-some}
-use Rattle.geodesics.proofs.Sides.{sides, fromOne, sidesLength}
+use Rattle.geodesics.specs.Rows.{fromOne, rowClasses}
+use Rattle.geodesics.proofs.Sides.{sides, sidesLength}
 use Rattle.geodesics.proofs.TwoTables.{laterLabels, laterSum}
-use Rattle.geodesics.proofs.TreeRows.{rowClasses, tree-row}
+use Rattle.geodesics.proofs.TreeRows.{tree-row}
 use Rattle.geodesics.proofs.Fordham.{row-sum, pair-closed, pair-length, same-carets}
 
 -- The sum is 0 just where all columns are R over R.

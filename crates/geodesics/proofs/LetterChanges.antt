@@ -8,20 +8,12 @@ use Prim.Native.Nat.{ℕ, zero, suc, _+_}
 use native.Mathlib.Nat.{zero-add}
 use native.Mathlib.Omega.{arith}
 use Rattle.group.specs.Letters.{Letter, 'a, 'A, 'b, 'B}
+use Rattle.geodesics.specs.inside.Costs.{Closed}
 use Rattle.geodesics.proofs.Columns.{ByOne, up, down, by-one-turned}
-use Rattle.geodesics.proofs.Rows.{first, rest, row, Closed, left-more, closed-more, cost-closed}
+use Rattle.geodesics.specs.Rows.{first, rest, row, fromOne}
+use Rattle.geodesics.proofs.Rows.{left-more, closed-more, cost-closed}
 use Rattle.geodesics.proofs.Splits.{split-left, reduce-left}
-use Rattle.geodesics.proofs.Sides.{
-  Sides,
-  sides,
-  putInverseBy,
-  putInverse,
-  putX0By,
-  putX0,
-  putLetter,
-  fromOne,
-  sumTo,
-}
+use Rattle.geodesics.proofs.Sides.{Sides, sides, putInverseBy, putInverse, putX0By, putX0, putLetter, sumTo}
 use Rattle.geodesics.proofs.Changes.{inverse-changes, x0-changes, at-changes}
 
 -- Columns that are enough.

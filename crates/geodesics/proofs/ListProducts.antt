@@ -13,7 +13,7 @@ use Rattle.group.specs.Reducing.{Occurs, Reduced}
 use Rattle.group.specs.Products.{reduceLevel, timesX0, single, timesGenerator}
 use Rattle.group.proofs.Exponents.{exponents-at}
 use Rattle.group.proofs.LevelProducts.{reduce-level-same}
-use Rattle.geodesics.proofs.Rows.{first}
+use Rattle.geodesics.specs.Rows.{first}
 use Rattle.geodesics.proofs.Sides.{Sides, sides, levelOn, putInverse, putX0, Rule, atZeros, atTree, at-suc}
 
 -- The exponents of a form, its sides exchanged, are those of two lists.

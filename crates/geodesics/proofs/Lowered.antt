@@ -8,20 +8,11 @@ use mathlib.Core.Logic.{_⊎_, inl, inr}
 use Prim.Native.Nat.{ℕ, zero, suc, _+_}
 use native.Mathlib.Nat.{suc-add, zero-add}
 use native.Mathlib.Omega.{arith}
-use Rattle.geodesics.specs.Labels.{Label, 'L}
-use Rattle.geodesics.proofs.Columns.{column, insideLabel, Fixed, fixed-left, fixed-inside}
-use Rattle.geodesics.proofs.Rows.{
-  first,
-  rest,
-  row,
-  labelBy,
-  nextOpen,
-  nextLeft,
-  nextRow,
-  Closed,
-  cost,
-  closed-more,
-}
+use Rattle.lengths.specs.Labels.{Label, 'L}
+use Rattle.geodesics.specs.inside.Costs.{column, insideLabel, labelBy, Closed, cost}
+use Rattle.geodesics.proofs.Columns.{Fixed, fixed-left, fixed-inside}
+use Rattle.geodesics.specs.Rows.{first, rest, row, nextOpen, nextLeft, nextRow}
+use Rattle.geodesics.proofs.Rows.{closed-more}
 use Rattle.geodesics.proofs.Splits.{reduce-open}
 use Rattle.geodesics.proofs.Choices.{choose-inside, choose-open, choose-leaves}
 use Rattle.geodesics.proofs.Sides.{Sides, putInverseBy, putInverse, putX0By, putX0, atTree, at-zero, at-next}

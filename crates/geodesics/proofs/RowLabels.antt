@@ -6,11 +6,11 @@ use Prim.Native.Nat.{ℕ, zero, suc, _+_}
 use native.Mathlib.Omega.{arith}
 use Rattle.lengths.specs.Classes.{Class}
 use Rattle.lengths.specs.Kinds.{nextInside, someInside, rightKind, kindOf}
-use Rattle.geodesics.specs.Labels.{'R, labelOf}
-use Rattle.geodesics.proofs.Columns.{sideLabel, insideLabel}
-use Rattle.geodesics.proofs.Rows.{first, rest, row, rowLabels, Closed}
+use Rattle.lengths.specs.Labels.{'R, labelOf}
+use Rattle.geodesics.specs.inside.Costs.{sideLabel, insideLabel, Closed}
+use Rattle.geodesics.specs.Rows.{first, rest, row, insideBy, rowClasses}
+use Rattle.geodesics.proofs.Rows.{rowLabels}
 use Rattle.geodesics.proofs.TwoTables.{NoLeft, LeftFirst, laterLabels}
-use Rattle.geodesics.proofs.TreeRows.{insideBy, rowClasses}
 
 -- The left side comes first.
 no-left-inside : (e : ℕ) (cs : List Class) → NoLeft cs → NoLeft (insideBy e ∷ cs)

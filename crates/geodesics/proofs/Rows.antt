@@ -1,86 +1,19 @@
--- The labels of a tree's carets by two counters, from the exponents of its leaves alone (000, definition 2.7; 001,
--- section 2). Caret k stands between the leaves k and k + 1.
---     row s l es      at a caret: s interior subtrees are open over it, l carets of the left side are to come at or
---                     behind it, es are the exponents of the leaves behind it
---     rowLabel r      the label of that caret            nextRow r      the row at the next caret
---     remaining n r   what is still open or to come behind n carets; Closed n r: nothing
---     cost n u v      the sum of Table 1 over n columns, the labels of the row u over those of v
--- Assumes nothing.
+-- The labels of a tree's carets by two counters, and their sum of Table 1 (001, section 2): how it changes with one
+-- counter, and what closed rows weigh. Assumes nothing.
 use mathlib.Core.Path.{_≡_, refl, sym, _∙_, ap}
 use mathlib.Core.List.{List, [], _∷_}
 use Prim.Native.Nat.{ℕ, zero, suc, _+_}
 use native.Mathlib.Nat.{add-suc, add-zero, suc-add, zero-add}
 use native.Mathlib.Omega.{arith}
-use Rattle.lists.specs.Entries.{total}
-use Rattle.geodesics.specs.Labels.{Label, 'L, 'R}
-use Rattle.geodesics.proofs.Columns.{
-  column,
-  columns,
-  ByOne,
-  sideLabel,
-  insideLabel,
-  column-left,
-  column-inside,
-  fixed-left,
-  fixed-inside,
-  fixed-by-one,
-}
-
--- The first entry, and the entries behind it; zeros stand behind the last.
-abbrev pub first : List ℕ → ℕ
-first [] = zero
-first (e ∷ es) = e
-
-abbrev pub rest : List ℕ → List ℕ
-rest [] = []
-rest (e ∷ es) = es
-
--- The two counters at a caret, and the exponents behind it.
-pub data Row : Type 0 where
-  row : ℕ → ℕ → List ℕ → Row
-
--- The label of a caret, by the two counters and the exponent of the leaf behind it.
-abbrev pub labelBy : ℕ → ℕ → ℕ → Label
-labelBy zero zero e = sideLabel e
-labelBy zero (suc l) e = 'L
-labelBy (suc s) l e = insideLabel e
-
--- The label of the caret.
-abbrev pub rowLabel : Row → Label
-rowLabel (row s l es) = labelBy s l (first es)
-
--- The counters at the next caret: each caret closes one of what is open or to come, the exponent opens as many.
-abbrev pub nextOpen : ℕ → ℕ → ℕ
-nextOpen zero e = e
-nextOpen (suc s) e = e + s
-
-abbrev pub nextLeft : ℕ → ℕ → ℕ
-nextLeft zero zero = zero
-nextLeft zero (suc l) = l
-nextLeft (suc s) l = l
-
--- The row at the next caret.
-abbrev pub nextRow : Row → Row
-nextRow (row s l es) = row (nextOpen s (first es)) (nextLeft s l) (rest es)
+use Rattle.lengths.specs.Labels.{Label, 'L, 'R}
+use Rattle.geodesics.specs.Rows.{first, rest, Row, row, nextRow}
+use Rattle.geodesics.specs.inside.Costs.{insideLabel, rowLabel, column, cost, remaining, Closed}
+use Rattle.geodesics.proofs.Columns.{columns, ByOne, column-left, column-inside, fixed-left, fixed-inside, fixed-by-one}
 
 -- The labels of n carets.
 abbrev pub rowLabels : ℕ → Row → List Label
 rowLabels zero r = []
 rowLabels (suc n) r = rowLabel r ∷ rowLabels n (nextRow r)
-
--- What is open or to come behind n carets.
-abbrev pub remaining : ℕ → Row → ℕ
-remaining zero (row s l es) = s + (l + total es)
-remaining (suc n) r = remaining n (nextRow r)
-
--- Nothing is.
-abbrev pub Closed : ℕ → Row → Type 0
-Closed n r = remaining n r ≡ 0
-
--- The sum over n columns.
-abbrev pub cost : ℕ → Row → Row → ℕ
-cost zero u v = zero
-cost (suc n) u v = column (rowLabel u) (rowLabel v) (cost n (nextRow u) (nextRow v))
 
 -- It is the sum over the labels.
 pub cost-columns : (n : ℕ) (u v : Row) → cost n u v ≡ columns (rowLabels n u) (rowLabels n v)

@@ -5,8 +5,9 @@ use Prim.Native.Nat.{ℕ, zero, suc}
 use lib.ListN.{getD}
 use Rattle.lists.specs.inside.Entries.{SameEntries}
 use Rattle.lists.proofs.Totals.{total-same}
-use Rattle.geodesics.proofs.Rows.{first, rest, row, nextOpen, nextLeft, remaining, Closed, cost}
-use Rattle.geodesics.proofs.Sides.{Sides, fromOne, sumTo, enough, sidesLength}
+use Rattle.geodesics.specs.Rows.{first, rest, row, nextOpen, nextLeft, fromOne}
+use Rattle.geodesics.specs.inside.Costs.{remaining, Closed, cost}
+use Rattle.geodesics.proofs.Sides.{Sides, sumTo, enough, sidesLength}
 use Rattle.geodesics.proofs.Enough.{BothClosed, both-closed, sum-any}
 
 -- The first entry, and those behind it.
@@ -47,7 +48,8 @@ cost-same (suc n) s l q m bs ds cs es hb hc =
           (rest cs) (rest es) (rest-same bs ds hb) (rest-same cs es hc),
     )
 
-from-same : (k : ℕ) (es fs : List ℕ) → SameEntries es fs → Closed k (fromOne es) → Closed k (fromOne fs)
+-- Rows of the same entries are closed alike.
+pub from-same : (k : ℕ) (es fs : List ℕ) → SameEntries es fs → Closed k (fromOne es) → Closed k (fromOne fs)
 from-same k es fs h c =
     sym
     (rw (first-same es fs h, first-same (rest es) (rest fs) (rest-same es fs h))

@@ -9,11 +9,14 @@ use Prim.Native.Nat.{ℕ, zero, suc, _+_, _≤_}
 use native.Mathlib.Omega.{arith}
 use Rattle.lists.specs.Entries.{total}
 use Rattle.group.specs.Letters.{Letter, 'a, 'A, 'b, 'B}
-use Rattle.geodesics.specs.Labels.{'R, isR}
-use Rattle.geodesics.proofs.Columns.{column, ByOne}
+use Rattle.lengths.specs.Labels.{'R}
+use Rattle.geodesics.specs.Table1.{isR}
+use Rattle.geodesics.specs.inside.Costs.{column, labelBy, rowLabel, Closed, cost}
+use Rattle.geodesics.proofs.Columns.{ByOne}
 use Rattle.geodesics.proofs.ColumnSums.{Weighs, column-weighs}
-use Rattle.geodesics.proofs.Rows.{first, rest, Row, row, labelBy, rowLabel, nextRow, Closed, cost, closed-plus}
-use Rattle.geodesics.proofs.Sides.{Sides, putLetter, fromOne, sumTo, enough, sidesLength}
+use Rattle.geodesics.specs.Rows.{first, rest, Row, row, nextRow, fromOne}
+use Rattle.geodesics.proofs.Rows.{closed-plus}
+use Rattle.geodesics.proofs.Sides.{Sides, putLetter, sumTo, enough, sidesLength}
 use Rattle.geodesics.proofs.LetterChanges.{letter-changes}
 use Rattle.geodesics.proofs.LetterLowers.{Lower, none, by, letter-lowers}
 use Rattle.geodesics.proofs.Enough.{first-total, fits, BothClosed, both-closed, sum-at}

@@ -11,7 +11,8 @@ use native.Mathlib.Nat.{add-zero}
 use lib.ListN.{length}
 use Rattle.lists.specs.Entries.{total}
 use Rattle.group.specs.Letters.{Letter, 'a, 'A, 'b, 'B}
-use Rattle.geodesics.proofs.Rows.{first, rest, Row, row, cost}
+use Rattle.geodesics.specs.Rows.{first, rest, fromOne}
+use Rattle.geodesics.specs.inside.Costs.{cost}
 
 -- The exponents of the b side and of the a side.
 pub record Sides : Type 0 where
@@ -88,10 +89,6 @@ putLetter f 'a = putX0 (f .b) (f .a)
 putLetter f 'A = putInverse (f .b) (f .a)
 putLetter f 'b = atSecond putX0 f
 putLetter f 'B = atSecond putInverse f
-
--- The row at caret 1 of the tree with the exponents.
-abbrev pub fromOne : List ℕ → Row
-fromOne es = row (first (rest es)) (first es) (rest (rest es))
 
 -- The sum over n columns, from caret 1 on.
 abbrev pub sumTo : ℕ → Sides → ℕ

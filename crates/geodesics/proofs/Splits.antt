@@ -6,9 +6,10 @@ use mathlib.Core.List.{List}
 use Prim.Native.Nat.{ℕ, zero, suc}
 use native.Mathlib.Nat.{zero-add}
 use native.Mathlib.Omega.{arith}
-use Rattle.geodesics.specs.Labels.{'L}
-use Rattle.geodesics.proofs.Columns.{column, sideLabel}
-use Rattle.geodesics.proofs.Rows.{first, rest, row, Closed, cost, closed-more, cost-closed}
+use Rattle.lengths.specs.Labels.{'L}
+use Rattle.geodesics.specs.inside.Costs.{column, sideLabel, Closed, cost}
+use Rattle.geodesics.specs.Rows.{first, rest, row}
+use Rattle.geodesics.proofs.Rows.{closed-more, cost-closed}
 
 left-over-right : (e s : ℕ) → column 'L (sideLabel e) s ≡ suc s
 left-over-right zero s = omega arith

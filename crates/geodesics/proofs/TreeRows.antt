@@ -1,45 +1,15 @@
--- The classes of a tree's carets by the two counters, from its exponents (000, definition 2.7).
---     rowClasses n r   the classes of n carets of a row
--- Assumes nothing.
+-- The classes of a tree's carets are those of the row of its exponents (000, definition 2.7): what goes by two counters
+-- is the one reading of the tree. Assumes nothing.
 use mathlib.Core.Path.{_≡_, refl, sym, _∙_, ap, ap₂, _≡⟨_⟩_, _∎}
-use mathlib.Core.List.{List, [], _∷_, _++_, append-assoc}
+use mathlib.Core.List.{List, _∷_, _++_, append-assoc}
 use Prim.Native.Nat.{ℕ, zero, suc, _+_}
 use native.Mathlib.Omega.{arith}
 use lib.ListN.{length}
 use Rattle.trees.specs.Trees.{Tree, leaf, caret, carets}
-use Rattle.trees.proofs.Readings.{leftEdge, later, exponentsOf}
-use Rattle.lengths.specs.Classes.{
-  Class,
-  onLeft,
-  onRight,
-  insideLeaf,
-  insideCaret,
-  insideOver,
-  insideClasses,
-  leftClasses,
-  rightClasses,
-  classes,
-}
-use Rattle.geodesics.proofs.Rows.{first, rest, Row, row, nextRow, remaining, Closed}
-use Rattle.geodesics.proofs.Sides.{fromOne}
-
--- The class of an interior caret, by the exponent of the leaf behind it.
-abbrev pub insideBy : ℕ → Class
-insideBy zero = insideLeaf
-insideBy (suc e) = insideCaret
-
-abbrev classBy : ℕ → ℕ → ℕ → Class
-classBy zero zero e = onRight
-classBy zero (suc l) e = onLeft
-classBy (suc s) l e = insideBy e
-
-abbrev rowClass : Row → Class
-rowClass (row s l es) = classBy s l (first es)
-
--- The classes of n carets.
-abbrev pub rowClasses : ℕ → Row → List Class
-rowClasses zero r = []
-rowClasses (suc n) r = rowClass r ∷ rowClasses n (nextRow r)
+use Rattle.trees.specs.Readings.{leftEdge, later, exponentsOf}
+use Rattle.lengths.specs.Classes.{Class, onLeft, onRight, insideOver, insideClasses, leftClasses, rightClasses, classes}
+use Rattle.geodesics.specs.Rows.{first, rest, Row, row, nextRow, insideBy, rowClasses, fromOne}
+use Rattle.geodesics.specs.inside.Costs.{remaining, Closed}
 
 -- There are n.
 pub row-classes-length : (n : ℕ) (r : Row) → length (rowClasses n r) ≡ n

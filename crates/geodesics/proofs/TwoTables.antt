@@ -12,8 +12,9 @@ use Rattle.lengths.specs.Classes.{Class, onLeft, onRight, insideLeaf, insideCar
 use Rattle.lengths.specs.Kinds.{Kind, LL, I0, IR, nextInside, someInside, rightKind, kindOf, laterKinds}
 use Rattle.lengths.specs.Weights.{weight, weights}
 use Rattle.lengths.proofs.Weights.{weight-symmetric}
-use Rattle.geodesics.specs.Labels.{Label, 'I, 'N, 'L, 'R, labelOf, labelsOf}
-use Rattle.geodesics.proofs.Columns.{column, columns}
+use Rattle.lengths.specs.Labels.{Label, 'I, 'N, 'L, 'R, labelOf, labelsOf}
+use Rattle.geodesics.specs.inside.Costs.{column}
+use Rattle.geodesics.proofs.Columns.{columns}
 use Rattle.geodesics.proofs.ColumnSums.{column-grows, column-some, column-symmetric, columns-symmetric}
 
 -- No class is that of the left side.

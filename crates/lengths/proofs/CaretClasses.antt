@@ -48,7 +48,7 @@ subtree-same (caret l r) (𝟏 ∷ u) x y h g = subtree-same r u x y h g
 pub caret-of : (t : Tree) (k : ℕ) → k < carets t → (v : Address) × IsCaret t k v
 caret-of t k h = at-exists (caretPlaces t) k (omega (arith, carets-numbered t))
 
-child-of : (t : Tree) (k : ℕ) (v : Address) → IsCaret t k v → (x : Tree) × Subtree t (v ++ (𝟏 ∷ [])) x
+pub child-of : (t : Tree) (k : ℕ) (v : Address) → IsCaret t k v → (x : Tree) × Subtree t (v ++ (𝟏 ∷ [])) x
 child-of t k v h =
     let s = caret-subtree t k v h in
     (s .1, right-child t v (s .0) (s .1) (s .2))
@@ -58,7 +58,7 @@ right-leaf : (t : Tree) (k : ℕ) (v : Address) → IsCaret t k v → RightLeaf 
 right-leaf t k v h p =
     subst (λ (u : Address). Subtree t (u ++ (𝟏 ∷ [])) leaf) (at-same (caretPlaces t) k (p .0) v (p .1) h) (p .2)
 
-right-caret : (t : Tree) (k : ℕ) (v : Address) (l r : Tree) → IsCaret t k v → Subtree t (v ++ (𝟏 ∷ [])) (caret l r)
+pub right-caret : (t : Tree) (k : ℕ) (v : Address) (l r : Tree) → IsCaret t k v → Subtree t (v ++ (𝟏 ∷ [])) (caret l r)
     → RightLeaf t k → ⊥
 right-caret t k v l r h s p =
     let e : caret l r ≡ leaf = subtree-same t (v ++ (𝟏 ∷ [])) (caret l r) leaf s (right-leaf t k v h p) in

@@ -49,13 +49,13 @@ abbrev InteriorFrom : Tree → ℕ → Type 0
 InteriorFrom t n = (j : ℕ) × (n ≤ j) × Interior t j
 
 -- The two tests of the classes from number n on, and what they say.
-abbrev next : Tree → ℕ → Bool
+abbrev pub next : Tree → ℕ → Bool
 next t n = nextInside (drop n (classes t))
 
-abbrev some : Tree → ℕ → Bool
+abbrev pub some : Tree → ℕ → Bool
 some t n = someInside (drop n (classes t))
 
-next-is : (t : Tree) (n : ℕ) → T (next t n) ↔ Interior t n
+pub next-is : (t : Tree) (n : ℕ) → T (next t n) ↔ Interior t n
 next-is t n = (
   (λ h. interior-is t n .1 (next-inside (classes t) n .0 h)),
   λ h. next-inside (classes t) n .1 (interior-is t n .0 h),
@@ -87,7 +87,7 @@ first-entry : (cs : List Class) → 0 < length cs → At (kindsOf cs) 0 L0
 first-entry [] h = absurd (omega arith)
 first-entry (c ∷ cs) h = refl
 
-later-entry : (t : Tree) (k : ℕ) (c : Class) → IsClass t (suc k) c
+pub later-entry : (t : Tree) (k : ℕ) (c : Class) → IsClass t (suc k) c
     → At (kinds t) (suc k) (kindOf c (next t (suc (suc k))) (some t (suc (suc k))))
 later-entry t k c h = kind-there (classes t) k c (class-is t (suc k) c .0 h)
 

@@ -8,8 +8,8 @@ use Prim.Native.Nat.{ℕ, _<_}
 use lib.Dec.{T, eqb, eqb→eq, lit<}
 use lib.ListN.{getD}
 use Rattle.lists.proofs.Tests.{all, all-at}
-use Rattle.lengths.specs.declared.table.CaretKind.{CaretKind}
-use Rattle.lengths.specs.declared.table.CaretKind.the-variants as Named
+use Rattle.lengths.specs.declared.kinds.CaretKind.{CaretKind}
+use Rattle.lengths.specs.declared.kinds.CaretKind.the-variants as Named
 use Rattle.lengths.specs.Kinds.{Kind, L0, LL, RI, RN, R0, I0, IR}
 use Rattle.lengths.specs.Weights.{weight, tableEntry}
 use Rattle.lengths.specs.inside.Steps.{kindNamed, indexOf}

@@ -15,7 +15,7 @@ use Rattle.group.specs.Forms.{bSide, aSide, Form, exponents, levels, exponentSu
 use Rattle.trees.specs.Trees.{Tree, leaf, caret, carets}
 use Rattle.trees.specs.Building.{needed, treeOf}
 use Rattle.trees.specs.Pairs.{caretsOf, minusTree, plusTree}
-use Rattle.trees.proofs.Readings.{exponentsOf}
+use Rattle.trees.specs.Readings.{exponentsOf}
 use Rattle.trees.proofs.Rows.{rightCarets, total-exponents}
 use Rattle.trees.proofs.Built.{tree-exponents}
 use Rattle.trees.proofs.Pairs.{a-needed, b-needed, pair-carets, sides-total, carets-limit}

@@ -1,11 +1,12 @@
 -- Laws of caret kinds and lengths.
 
--- the one reading of a tree, and the kinds of its carets
+-- the one reading of a tree, and the kinds and labels of its carets
 pub mod ShapeClasses
 pub mod Places
 pub mod LaterKinds
 pub mod CaretClasses
 pub mod CaretKinds
+pub mod CaretLabels
 -- weights
 pub mod Weights
 pub mod ConstantTable

@@ -12,7 +12,7 @@ use native.Mathlib.Decide.{decLt}
 use lib.Dec.{leb}
 use lib.ListN.{length, take, drop, getD, length-drop}
 use lib.Seq.{length-take-le, drop-cons, drop-length, getD-take}
-use Rattle.lengths.specs.declared.table.CaretKind.{CaretKind}
+use Rattle.lengths.specs.declared.kinds.CaretKind.{CaretKind}
 use Rattle.lengths.specs.Classes.{Class}
 use Rattle.lengths.specs.Kinds.{
   Kind,

@@ -2,5 +2,6 @@
 pub mod Classes
 pub mod Kinds
 pub mod Weights
+pub mod Labels
 -- what no claim reaches
 pub mod inside

@@ -8,6 +8,7 @@ ghost use Rattle.lengths.specs.inside.Steps.{lengthWithin, Found};
 use trees::MAX_CARETS;
 use trees::Pairing;
 
+pub mod kinds;
 mod reader;
 mod sums;
 mod table;

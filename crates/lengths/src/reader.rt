@@ -8,15 +8,10 @@ ghost use Rattle.lengths.specs.inside.Reading.{sideClasses, shapeClasses
 ghost use Rattle.lengths.specs.inside.Steps.{classBytes, leftCarets};
 ghost use Rattle.lengths.specs.inside.Steps.{Readable, Hanging, NodeReady, NodeRead, SubtreeRead};
 ghost use Rattle.lengths.specs.inside.Steps.{InnerRead, Shaped};
+use crate::kinds::INSIDE_LEAF;
+use crate::kinds::LEFT;
+use crate::kinds::RIGHT;
 use refusals::CaretNumber;
-
-// The classes of carets, as they are kept in a table: on the left side, on the right side, interior with a leaf as
-// right child. Any other interior caret has the byte 3: INSIDE_LEAF and the first byte of its right subtree, 1.
-pub const LEFT: u8 = 0;
-
-pub const RIGHT: u8 = 1;
-
-pub const INSIDE_LEAF: u8 = 2;
 
 // Amid an interior subtree: the next caret in order, and the subtrees to come.
 pub struct Amid {
@@ -30,7 +25,8 @@ pub struct Place {
     pub caret: CaretNumber,
 }
 
-// One node of an interior subtree: a caret opens a subtree more, a leaf closes one and the next caret is interior.
+// One node of an interior subtree: a caret opens a subtree more, a leaf closes one and the next caret is interior. Its
+// class is INSIDE_LEAF and the first byte of its right subtree, which makes INSIDE_CARET where that is 1.
 fn read_node(shape: &mut [u8], at: usize, caret: CaretNumber, pending: usize) -> Amid
     requires { ⌜ NodeReady (now shape) at (caret .0) pending ⌝ }
     ensures { λ r. ⌜ NodeRead (now (shape .entry)) at (caret .0) pending (now (shape .exit)) r ⌝ }

@@ -6,9 +6,9 @@ ghost use Rattle.lengths.specs.Kinds.{kindsOf};
 ghost use Rattle.lengths.specs.Weights.{weights};
 ghost use Rattle.lengths.specs.inside.Reading.{shapeClasses};
 ghost use Rattle.lengths.specs.inside.Steps.{classesOf, PairShaped, PairClassed};
-use crate::reader::INSIDE_LEAF;
+use crate::kinds::INSIDE_LEAF;
+use crate::kinds::kind;
 use crate::reader::read_classes;
-use crate::table::kind;
 use crate::table::weight;
 
 // The weights of the carets 1 to n − 1, by the classes of the carets of T− and of T+. Of both trees it is carried along

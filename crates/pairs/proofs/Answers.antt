@@ -1,4 +1,4 @@
--- The answers of the two calls: a refusal of the reader is passed on; else the tables that it filled decide.
+-- The answers of the three calls: a refusal of the reader is passed on; else the tables that it filled decide.
 -- Assumes nothing.
 use mathlib.Core.Path.{_≡_, refl, sym, ap, ap₂, _∙_, subst}
 use mathlib.Core.Bool.{Bool, true, false}
@@ -54,13 +54,14 @@ module _ {s z b a : List ℕ} {f : Form} (c : Cleared (suc limit) z) (r : Read s
   plus-tree : treeOf (caretsOf f) b ≡ plusTree f
   plus-tree = ap (treeOf (caretsOf f)) (r .b-holds) ∙ tree-of-table f (r .within) c bSide
 
-  -- The length of the tables is that of the form.
-  pub length-read : (l : Length) → lengthOf l ≡ tableLength b a
-      → replyOf (lengthIn l) ≡ valued formLength (decode s)
-  length-read l e =
+  -- The length of the tables is that of the form, by any count that gives it.
+  pub length-read : (count : Form → ℕ) → ((g : Form) → count g ≡ formLength g)
+      → (l : Length) → lengthOf l ≡ tableLength b a → replyOf (lengthIn l) ≡ valued count (decode s)
+  length-read count same l e =
       passed-on l (e ∙ ap (λ (o : Outcome ℕ). then o (λ n. accepted (pairLength (treeOf n a) (treeOf n b)))) fit-tables
-      ∙ ap₂ (λ (t u : Tree). accepted (pairLength t u)) minus-tree plus-tree)
-      ∙ sym (ap (valued formLength) (r .decodes))
+      ∙ ap₂ (λ (t u : Tree). accepted (pairLength t u)) minus-tree plus-tree
+      ∙ sym (ap accepted (same f)))
+      ∙ sym (ap (valued count) (r .decodes))
     where
       passed-on : (k : Length) {n : ℕ} → lengthOf k ≡ accepted n → replyOf (lengthIn k) ≡ accepted n
       passed-on (Summed.Letters m) h = h
@@ -115,7 +116,7 @@ module _ {s z b a : List ℕ} {v : Verdict} {q : Refusal} (c : Cleared (suc limi
     t-plus = rw refuses refl;
   }
 
-  pub length-refused : Measured s (Replies.Refused r)
+  pub length-refused : {count : Form → ℕ} → Measured count s (Replies.Refused r)
   length-refused = record { are-bytes = d .are-bytes; result = rw refuses refl }
 
 -- The tables of a record that is accepted give its tree pair and its length.
@@ -126,8 +127,8 @@ module _ {s z b a : List ℕ} {v : Verdict} (c : Cleared (suc limit) z) (d : Dec
       let f = read-accepted c d e in
       subst (λ (t : Reply). Paired s m p m′ p′ t) (sym is) (pair-read c (f .1) x w)
 
-  pub length-answer : (l : Length) (r : Reply) → lengthOf l ≡ tableLength b a → r ≡ lengthIn l
-      → Measured s r
-  length-answer l r h is =
+  pub length-answer : {count : Form → ℕ} → ((g : Form) → count g ≡ formLength g)
+      → (l : Length) (r : Reply) → lengthOf l ≡ tableLength b a → r ≡ lengthIn l → Measured count s r
+  length-answer {count} same l r h is =
       let f = read-accepted c d e in
-      record { are-bytes = d .are-bytes; result = ap replyOf is ∙ length-read c (f .1) l h }
+      record { are-bytes = d .are-bytes; result = ap replyOf is ∙ length-read c (f .1) count same l h }

@@ -1,8 +1,10 @@
--- The contracts of the two calls on every input (01, 'What the desk can be asked', 'Who caused the refusal'): refusals
--- 3, 4 and 5 of the record, then 7.
+-- The contracts of the three calls on every input (01, 'What the desk can be asked', 'Who caused the refusal'; 02,
+-- [5]): refusals 3, 4 and 5 of the record, then 7.
 --     pairedIn s m p   the form of the bytes s, beside buffers of the lengths m and p, or what is refused
 --     Paired           the contract of `record_to_tree_pair`
---     Measured         the contract of `record_to_length`
+--     labelSum f       the sum of 001, Table 1, of a form
+--     Measured         the contract of `record_to_length`, with `formLength`, and of `record_to_label_length`, with
+--                      `labelSum`
 -- Assumes nothing.
 use mathlib.Core.Path.{_≡_}
 use mathlib.Core.Bool.{cond}
@@ -18,7 +20,7 @@ use Rattle.fields.specs.Fields.{Bytes}
 use Rattle.trees.specs.Trees.{Tree}
 use Rattle.trees.specs.Pairs.{caretsOf, minusTree, plusTree}
 use Rattle.trees.specs.Shapes.{shape, shapeSize}
-use Rattle.lengths.specs.Weights.{formLength}
+use Rattle.geodesics.specs.Table1.{labelLength}
 use Rattle.refusals.specs.declared.Reply.{Reply}
 
 -- The form of a record, beside buffers of the lengths m and p: both need room for a shape of N carets.
@@ -39,7 +41,11 @@ pub record Paired (s minus plus minus′ plus′ : List ℕ) (r : Reply) : Type 
   pub t-minus : minus′ ≡ treeAfter minusTree (pairedIn s (length minus) (length plus)) minus
   pub t-plus : plus′ ≡ treeAfter plusTree (pairedIn s (length minus) (length plus)) plus
 
--- The length of the record's form, or its refusal. What is lent as a record are bytes.
-pub record Measured (s : List ℕ) (r : Reply) : Type 0 where
+-- The sum of Table 1 over the labels of the form's smallest pair.
+abbrev pub labelSum : Form → ℕ
+labelSum f = labelLength (minusTree f) (plusTree f)
+
+-- The count of the record's form, or its refusal. What is lent as a record are bytes.
+pub record Measured (count : Form → ℕ) (s : List ℕ) (r : Reply) : Type 0 where
   pub are-bytes : Bytes s
-  pub result : replyOf r ≡ valued formLength (decode s)
+  pub result : replyOf r ≡ valued count (decode s)

@@ -1,6 +1,7 @@
-// The tree pair and the word length of a record.
+// The tree pair of a record, and its length: by Fordham's weights, and by Table 1 of 001.
 ghost use mathlib.Core.Path.{_≡_};
-ghost use Rattle.pairs.specs.Contracts.{Paired, Measured};
+ghost use Rattle.lengths.specs.Weights.{formLength};
+ghost use Rattle.pairs.specs.Contracts.{Paired, labelSum, Measured};
 ghost use Rattle.pairs.specs.inside.Passing.{pairingIn, lengthIn};
 use lengths::Length;
 use refusals::LIMIT;
@@ -20,7 +21,7 @@ fn paired(pairing: Pairing) -> Reply
     }
 }
 
-// The answer of the sum of weights; the tables of a form within the limits are never unfit.
+// The answer of a sum of weights; the tables of a form within the limits are never unfit.
 fn measured(length: Length) -> Reply
     ensures { λ r. ⌜ r ≡ lengthIn length ⌝ }
 {
@@ -46,7 +47,7 @@ pub fn record_to_tree_pair(record: &[u8], t_minus: &mut [u8], t_plus: &mut [u8])
 
 // Record to length: refusals 3, 4 and 5; else the sum of the weights over the carets of the pair.
 pub fn record_to_length(record: &[u8]) -> Reply
-    ensures { λ r. ⌜ Measured (now («record» .entry)) r ⌝ }
+    ensures { λ r. ⌜ Measured formLength (now («record» .entry)) r ⌝ }
 {
     let mut b = [0u16; LIMIT + 1];
     let mut a = [0u16; LIMIT + 1];
@@ -55,4 +56,17 @@ pub fn record_to_length(record: &[u8]) -> Reply
         return Reply::Refused(refusals::refusal_of(verdict));
     };
     measured(lengths::pair_length(&b, &a))
+}
+
+// Record to length by Table 1: refusals 3, 4 and 5; else the sum of the table over the labels of the pair's carets.
+pub fn record_to_label_length(record: &[u8]) -> Reply
+    ensures { λ r. ⌜ Measured labelSum (now («record» .entry)) r ⌝ }
+{
+    let mut b = [0u16; LIMIT + 1];
+    let mut a = [0u16; LIMIT + 1];
+    let verdict = records::record_to_tables(record, &mut b, &mut a);
+    let Verdict::Accepted = verdict else {
+        return Reply::Refused(refusals::refusal_of(verdict));
+    };
+    measured(scans::scan_length(&b, &a))
 }

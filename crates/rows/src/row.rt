@@ -88,7 +88,7 @@ fn put_tables(
         (now (out .entry)) at (now (out .exit)) r ⌝ }
 {
     let carets = carets_in(trees::count_carets(b, a));
-    let least = letters_in(lengths::pair_length(b, a));
+    let least = letters_in(scans::scan_length(b, a));
     put_record(
         number,
         letters as u64,

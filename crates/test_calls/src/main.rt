@@ -8,6 +8,7 @@ use cases::parts;
 use libc::STDIN_FILENO;
 use receipts::OUTPUT;
 
+mod both;
 mod memory;
 mod printing;
 mod reading;
@@ -40,6 +41,7 @@ fn answer(line: &[u8], given: &mut [u8; GIVEN], out: &mut [u8; OUTPUT]) {
     match kind {
         b'#' => {}
         b'g' => spheres::spheres(),
+        b'l' => both::lengths(bytes),
         b'm' => tables::measure(bytes, s),
         b'r' => runs::receipts(bytes, s, m, out),
         _ => memory::lend(kind, bytes, s, parts::front(&other, m), s2, out),

@@ -39,7 +39,6 @@ fn call(
         b'c' => thompson::thompson_check_record(given),
         b'f' => thompson::thompson_text_to_record(given, b, a, out),
         b'i' => thompson::thompson_record_to_text(given, out),
-        b'l' => thompson::thompson_record_to_length(given),
         b'p' => thompson::thompson_record_to_tree_pair(given, out, out2),
         b's' => thompson::thompson_record_to_word(given, out),
         b't' => tables(given, b, a),

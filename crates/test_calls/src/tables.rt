@@ -25,13 +25,19 @@ fn read(bytes: &[u8], table: &mut [u16; ENTRIES]) {
     }
 }
 
-// The length of the smallest pair with the exponents of s.b entries of one table and s.a of another.
-fn length(b: &[u16; ENTRIES], a: &[u16; ENTRIES], s: Sizes) {
-    let length = lengths::pair_length(parts::entries(b, s.b), parts::entries(a, s.a));
+// A length, or that the tables are unfit.
+fn print_length(length: Length) {
     match length {
         Length::Letters(n) => counts::print_number(b"", n as u64),
         Length::Unfit => counts::print_text(b"unfit"),
     }
+}
+
+// The length of the smallest pair with the exponents of s.b entries of one table and s.a of another, by both engines.
+fn length(b: &[u16; ENTRIES], a: &[u16; ENTRIES], s: Sizes) {
+    print_length(lengths::pair_length(parts::entries(b, s.b), parts::entries(a, s.a)));
+    counts::print_text(b" ");
+    print_length(scans::scan_length(parts::entries(b, s.b), parts::entries(a, s.a)));
 }
 
 // The same from their bytes; those of the second table follow those of the first.

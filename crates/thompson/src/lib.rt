@@ -8,7 +8,8 @@ ghost use Rattle.records.specs.Checking.{Checked};
 ghost use Rattle.words.specs.Recording.{Recorded};
 ghost use Rattle.comparisons.specs.Comparing.{decisionOf, Compared};
 ghost use Rattle.wordlists.specs.Listing.{Listed};
-ghost use Rattle.pairs.specs.Contracts.{Paired, Measured};
+ghost use Rattle.lengths.specs.Weights.{formLength};
+ghost use Rattle.pairs.specs.Contracts.{Paired, labelSum, Measured};
 ghost use Rattle.spelling.specs.Contracts.{Spelled};
 ghost use Rattle.notation.specs.Contracts.{TextRecorded, TextWritten};
 ghost use Rattle.registers.specs.Answers.{RegisterChecked};
@@ -230,9 +231,17 @@ pub extern "C" fn thompson_record_to_tree_pair(
 // Record to length; the value is the length.
 #[no_mangle]
 pub extern "C" fn thompson_record_to_length(record: &[u8]) -> Answer
-    ensures { λ r. ⌜ Passed (λ a. codeOf (replyOf a)) (Measured (now («record» .entry))) r ⌝ }
+    ensures { λ r. ⌜ Passed (λ a. codeOf (replyOf a)) (Measured formLength (now («record» .entry))) r ⌝ }
 {
     from_reply(pairs::record_to_length(record))
+}
+
+// Record to length by Table 1; the value is the length.
+#[no_mangle]
+pub extern "C" fn thompson_record_to_label_length(record: &[u8]) -> Answer
+    ensures { λ r. ⌜ Passed (λ a. codeOf (replyOf a)) (Measured labelSum (now («record» .entry))) r ⌝ }
+{
+    from_reply(pairs::record_to_label_length(record))
 }
 
 // Two words; the value is 1 where they are the same element, and 0 where they are not.

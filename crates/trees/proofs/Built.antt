@@ -14,7 +14,7 @@ use Rattle.lists.specs.inside.Entries.{SameEntries}
 use Rattle.lists.proofs.Totals.{same-cons, same-append, same-none, same-zero, total-append, entry-total}
 use Rattle.trees.specs.Trees.{Tree, leaf, caret, carets}
 use Rattle.trees.specs.Building.{firstTree, laterTrees, grow, rowOf, overRow, needed, treeOf}
-use Rattle.trees.proofs.Readings.{leftEdge, later, exponentsOf}
+use Rattle.trees.specs.Readings.{leftEdge, later, exponentsOf}
 use Rattle.trees.proofs.Rows.{treeAt, tree-at-none, row-zeros, total-subtree, total-exponents}
 use Rattle.trees.proofs.Needed.{Holds, needed-holds, holds-same, holds-none, holds-total, holds-above}
 

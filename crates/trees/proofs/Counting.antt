@@ -1,48 +1,18 @@
--- The carets that a table of exponents needs, counted from its end: the laws of that loop. Assumes nothing.
-use mathlib.Core.Path.{_≡_, refl, sym, _∙_, ap, subst, _≡⟨_⟩_, _∎}
+-- The carets that a table of exponents needs, counted from its end: the laws of those loops. Assumes nothing.
+use mathlib.Core.Path.{_≡_, refl, sym, _∙_, ap, subst}
 use mathlib.Core.List.{List, [], _∷_}
-use Prim.Native.Nat.{ℕ, zero, suc, _+_, _*_, _-_, _<_, _≤_, max}
+use Prim.Native.Nat.{ℕ, zero, suc, _+_, _-_, _<_, _≤_, max}
 use native.Mathlib.Omega.{arith}
 use lib.ListN.{length, drop, getD}
 use lib.Seq.{drop-cons, drop-length}
 use Rattle.lists.specs.Entries.{total}
+use Rattle.lists.proofs.Totals.{entry-total, drop-total}
 use Rattle.trees.specs.Building.{needed}
-use Rattle.trees.specs.inside.Counting.{raised}
-use Rattle.trees.specs.inside.Steps.{Unused}
+use Rattle.trees.specs.inside.Zeros.{ZerosBefore}
+use Rattle.trees.specs.inside.Counting.{Unused, UpToLast, Counted}
+use Rattle.trees.proofs.ZeroBlocks.{pass-block}
 
--- An exponent above 0.
-pub raised-some : (i e sum behind r s : ℕ) → 0 < e → s ≡ i + sum + 1 → r ≡ max s behind → r ≡ raised i e sum behind
-raised-some i zero sum behind r s h es er = absurd (omega arith)
-raised-some i (suc e) sum behind r s h es er =
-    let same : s ≡ suc (i + sum) = omega arith in
-    er ∙ ap (λ (k : ℕ). max k behind) same
-
-needed-cons : (i e : ℕ) (es : List ℕ) → needed i (e ∷ es) ≡ raised i e (e + total es) (needed (suc i) es)
-needed-cons i zero es = refl
-needed-cons i (suc e) es = refl
-
--- The entries from i on are counted.
-pub record Counted (e : List ℕ) (i sum n : ℕ) : Type 0 where
-  pub within : i ≤ length e
-  pub sums : sum ≡ total (drop i e)
-  pub bound : sum ≤ 65535 * (length e - i)
-  pub carets : n ≡ needed i (drop i e)
-
--- Entries that sum to 0 need no caret.
-needed-none : (k : ℕ) (es : List ℕ) → total es ≡ 0 → needed k es ≡ 0
-needed-none k [] h = refl
-needed-none k (zero ∷ es) h = needed-none (suc k) es (omega arith)
-needed-none k (suc e ∷ es) h = absurd (omega arith)
-
-pub count-start : {e : List ℕ} {i : ℕ} → Unused e i → Counted e i 0 0
-count-start {e} {i} u = record {
-  within = u .within;
-  sums = sym (u .none);
-  bound = omega arith;
-  carets = sym (needed-none i (drop i e) (u .none));
-}
-
--- No entry is looked at, then one entry more that is 0.
+-- No entry is looked at, then one entry more that is 0, or a block of them.
 pub unused-start : (e : List ℕ) → Unused e (length e)
 unused-start e = record { within = omega arith; none = ap total (drop-length e) }
 
@@ -53,35 +23,94 @@ unused-more {e} {i} u some z =
     drop-cons e (i - 1) 0 (omega (arith, u .within)) ∙ ap (λ (j : ℕ). getD e (i - 1) 0 ∷ drop j e) next in
     record { within = omega (arith, u .within); none = ap total cut ∙ omega (arith, u .none) }
 
-pub unused-all : {e : List ℕ} {i : ℕ} → Unused e i → i ≤ 0 → Unused e 0
-unused-all {e} {i} u h =
+pub unused-block : {e : List ℕ} {i : ℕ} → Unused e i → ZerosBefore e i → Unused e (i - 64)
+unused-block {e} {i} u b = record {
+  within = omega (arith, u .within);
+  none = pass-block b (u .within) (i - 64) (omega (arith, b .room)) .sums ∙ u .none;
+}
+
+-- All are 0, or the entry in front is not.
+pub last-none : {e : List ℕ} {i : ℕ} → Unused e i → i ≤ 0 → UpToLast e 0
+last-none {e} {i} u h =
     let z : i ≡ 0 = omega arith in
-    subst (λ (j : ℕ). Unused e j) z u
+    record { unused = subst (λ (j : ℕ). Unused e j) z u; some = λ j p. absurd (omega arith) }
+
+-- The sum from an entry on is at least that from a later one on.
+later-total : (j i : ℕ) (e : List ℕ) → j ≤ i → total (drop i e) ≤ total (drop j e)
+later-total zero i e h = drop-total i e
+later-total (suc j) zero e h = absurd (omega arith)
+later-total (suc j) (suc i) [] h = omega arith
+later-total (suc j) (suc i) (x ∷ e) h = later-total j i e (omega arith)
+
+pub last-found : {e : List ℕ} {i : ℕ} → Unused e i → (getD e (i - 1) 0 ≡ 0 → ⊥) → UpToLast e i
+last-found {e} {i} u h = record {
+  unused = u;
+  some = λ j p.
+      omega (arith, above (getD e (i - 1) 0) h, entry-total (i - 1) e, later-total j (i - 1) e (omega arith));
+}
+  where
+    above : (x : ℕ) → (x ≡ 0 → ⊥) → 0 < x
+    above zero f = absurd (f refl)
+    above (suc x) f = omega arith
+
+-- Entries that sum to 0 need no caret; others need more than their sum, counted from the first of them.
+needed-none : (k : ℕ) (es : List ℕ) → total es ≡ 0 → needed k es ≡ 0
+needed-none k [] h = refl
+needed-none k (zero ∷ es) h = needed-none (suc k) es (omega arith)
+needed-none k (suc e ∷ es) h = absurd (omega arith)
+
+needed-some : (k : ℕ) (es : List ℕ) → 0 < total es → k + total es < needed k es
+needed-some k [] h = absurd (omega arith)
+needed-some k (zero ∷ es) h = omega (arith, needed-some (suc k) es (omega arith))
+needed-some k (suc e ∷ es) h = omega arith
+
+-- So an entry in front of others needs no test, unless it and they are all 0.
+needed-cons : (i e : ℕ) (es : List ℕ) → 0 < e + total es
+    → needed i (e ∷ es) ≡ max (i + (e + total es) + 1) (needed (suc i) es)
+needed-cons i zero es h = omega (arith, needed-some (suc i) es (omega arith))
+needed-cons i (suc e) es h = omega arith
+
+-- The last entry that is not 0 comes next.
+pub count-start : {e : List ℕ} {i : ℕ} → UpToLast e i → Counted e i 0 0
+count-start {e} {i} u = record {
+  within = u .unused .within;
+  sums = sym (u .unused .none);
+  bound = omega arith;
+  carets = sym (needed-none i (drop i e) (u .unused .none));
+  some = u .some;
+}
 
 -- One entry more.
 module _ {e : List ℕ} {j sum n : ℕ} (h : Counted e j sum n) (i x sum′ n′ : ℕ) (at : j ≡ suc i) (is : x ≡ getD e i 0)
-    (word : x < 65536) (added : sum′ ≡ sum + x) (next : n′ ≡ raised i x sum′ n) where
+    (word : x < 65536) (added : sum′ ≡ sum + x) (next : n′ ≡ max (i + sum′ + 1) n) where
   cut : drop i e ≡ x ∷ drop j e
   cut = rw (at, is) (drop-cons e i 0 (omega (arith, h .within)))
 
   pub count-more : Counted e i sum′ n′
   count-more =
       let rest : List ℕ = drop j e in
-      let s : ℕ = x + total rest in
-      let sums′ : sum′ ≡ x + total rest = omega (arith, h .sums) in
+      let sums′ : sum′ ≡ total (drop i e) = omega (arith, h .sums, ap total cut) in
+      let behind : needed j rest ≡ needed (suc i) rest = ap (λ (k : ℕ). needed k rest) at in
+      let whole = needed-cons i x rest (omega (arith, h .some i (omega arith), ap total cut)) in
       record {
         within = omega (arith, h .within);
-        sums = sums′ ∙ sym (ap total cut);
+        sums = sums′;
         bound = omega (arith, h .bound, h .within);
-        carets =
-            n′ ≡⟨ next ⟩
-            raised i x sum′ n ≡⟨ ap (λ (k : ℕ). raised i x k n) sums′ ⟩
-            raised i x s n ≡⟨ ap (raised i x s) (h .carets) ⟩
-            raised i x s (needed j rest) ≡⟨ ap (λ (k : ℕ). raised i x s (needed k rest)) at ⟩
-            raised i x s (needed (suc i) rest) ≡⟨ sym (needed-cons i x rest) ⟩
-            needed i (x ∷ rest) ≡⟨ sym (ap (needed i) cut) ⟩
-            needed i (drop i e) ∎;
+        carets = omega (arith, h .carets, behind, whole, ap (needed i) cut, ap total cut);
+        some = λ k p. h .some k (omega arith);
       }
+
+-- A block of zeros more.
+pub count-block : {e : List ℕ} {i sum n : ℕ} → Counted e i sum n → ZerosBefore e i → Counted e (i - 64) sum n
+count-block {e} {i} h b =
+    let p = pass-block b (h .within) (i - 64) (omega (arith, b .room)) in
+    record {
+      within = omega (arith, h .within);
+      sums = h .sums ∙ sym (p .sums);
+      bound = omega (arith, h .bound, h .within, b .room);
+      carets = h .carets ∙ sym (p .carets);
+      some = λ k q. h .some k (omega arith);
+    }
 
 -- All are counted.
 pub count-done : {e : List ℕ} {i sum n : ℕ} → Counted e i sum n → i ≡ 0 → n ≡ needed 0 e

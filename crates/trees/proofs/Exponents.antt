@@ -17,7 +17,7 @@ use Rattle.group.specs.Forms.{Side, Form, exponent, exponents}
 use Rattle.group.proofs.Exponents.{exponents-at}
 use Rattle.trees.specs.Trees.{Tree, leaf, caret, carets, Address, below, leaves, IsLeaf, RightSide}
 use Rattle.trees.specs.Exponents.{leftEdges, UpFrom, LeafExponent, HasExponents}
-use Rattle.trees.proofs.Readings.{leftEdge, later, exponentsOf}
+use Rattle.trees.specs.Readings.{leftEdge, later, exponentsOf}
 use Rattle.trees.proofs.Leaves.{leaf-of, of-leaf}
 
 -- The number of left edges at the end of an address that has d left edges in front of it.

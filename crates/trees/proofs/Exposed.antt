@@ -17,7 +17,7 @@ use Rattle.trees.specs.Trees.{Tree, leaf, caret, carets, Address, RightS
 use Rattle.trees.specs.Exponents.{leftEdges}
 use Rattle.trees.specs.Building.{needed}
 use Rattle.trees.specs.Pairs.{Exposed}
-use Rattle.trees.proofs.Readings.{leftEdge, later, exponentsOf}
+use Rattle.trees.specs.Readings.{leftEdge, later, exponentsOf}
 use Rattle.trees.proofs.Leaves.{LeafAt, to-leaf}
 use Rattle.trees.proofs.Exponents.{exponentFrom, addressExponent, exponent-from-left, exponent-from-longest}
 use Rattle.trees.proofs.Exponents.{exponent-at-leaf}

@@ -16,7 +16,7 @@ use Rattle.trees.specs.Trees.{Tree, leaf, caret, carets, Address, RightS
 use Rattle.trees.specs.Exponents.{leftEdges, UpFrom}
 use Rattle.trees.specs.Building.{needed, treeOf}
 use Rattle.trees.specs.Pairs.{Exposed}
-use Rattle.trees.proofs.Readings.{leftEdge, later, exponentsOf}
+use Rattle.trees.specs.Readings.{leftEdge, later, exponentsOf}
 use Rattle.trees.proofs.Leaves.{LeafAt, of-leaf, leaf-of}
 use Rattle.trees.proofs.Exponents.{left-edges-past, addressExponent, address-exponent, exponent-at-leaf}
 use Rattle.trees.proofs.Carets.{first-leaf}

@@ -1,7 +1,6 @@
 -- Laws of trees.
 
 -- leaves and their exponents, carets
-pub mod Readings
 pub mod Leaves
 pub mod Exponents
 pub mod Carets
@@ -22,6 +21,7 @@ pub mod Subtrees
 pub mod SubtreeEnds
 pub mod Nodes
 -- the steps of the functions
+pub mod ZeroBlocks
 pub mod Counting
 pub mod WriteSteps
 pub mod WriteTree

@@ -15,7 +15,7 @@ use Rattle.trees.specs.Trees.{Tree, leaf, caret, carets}
 use Rattle.trees.specs.Building.{needed, treeOf}
 use Rattle.trees.specs.Shapes.{shape}
 use Rattle.trees.specs.inside.Writing.{nodesFrom}
-use Rattle.trees.proofs.Readings.{leftEdge, later, exponentsOf}
+use Rattle.trees.specs.Readings.{leftEdge, later, exponentsOf}
 use Rattle.trees.proofs.Exponents.{later-length}
 use Rattle.trees.proofs.Built.{tree-carets, tree-exponents}
 

@@ -14,7 +14,7 @@ use Rattle.trees.specs.Trees.{Tree, carets}
 use Rattle.trees.specs.Exponents.{HasExponents}
 use Rattle.trees.specs.Building.{needed}
 use Rattle.trees.specs.Pairs.{caretsOf, minusTree, plusTree, Pair, SmallestPair, Redundant}
-use Rattle.trees.proofs.Readings.{exponentsOf}
+use Rattle.trees.specs.Readings.{exponentsOf}
 use Rattle.trees.proofs.Exponents.{side-entries}
 use Rattle.trees.proofs.Needed.{needed-same}
 use Rattle.trees.proofs.Built.{tree-holds}

@@ -12,7 +12,7 @@ use Rattle.lists.specs.inside.Entries.{SameEntries}
 use Rattle.lists.proofs.Totals.{total-append, total-same}
 use Rattle.trees.specs.Trees.{Tree, leaf, caret, carets}
 use Rattle.trees.specs.Building.{firstTree, laterTrees, grow, rowOf, overRow, treeOf}
-use Rattle.trees.proofs.Readings.{leftEdge, later, exponentsOf}
+use Rattle.trees.specs.Readings.{leftEdge, later, exponentsOf}
 
 -- Tree i of a row.
 abbrev pub treeAt : ℕ → List Tree → Tree

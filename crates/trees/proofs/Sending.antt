@@ -11,7 +11,7 @@ use Rattle.group.proofs.Values.{Low, withDigit, value, onInner, on-inner-twice,
 use Rattle.group.proofs.Digits.{moveAll, map-below1, move-all-value, value→same}
 use Rattle.trees.specs.Trees.{Tree, leaf, caret, carets, Address}
 use Rattle.trees.specs.Pairs.{Pair, SendsLeaves, InLeaf}
-use Rattle.trees.proofs.Readings.{exponentsOf}
+use Rattle.trees.specs.Readings.{exponentsOf}
 use Rattle.trees.proofs.Leaves.{LeafAt, to-leaf, of-leaf}
 use Rattle.trees.proofs.Exponents.{side-entries}
 use Rattle.trees.proofs.Slots.{powersMap, form-sides, powers-same, withDigits, slot, slot-to-leaf}

@@ -16,7 +16,7 @@ use Rattle.group.proofs.Slope.{iter-undo}
 use Rattle.group.proofs.Values.{Low, nought, inside, withDigit, onInner}
 use Rattle.group.proofs.Values.{a-on-0, a-on-10, a-on-11, lift-behind-0, lift-behind-1}
 use Rattle.trees.specs.Trees.{Tree, leaf, caret, carets, Address}
-use Rattle.trees.proofs.Readings.{leftEdge, later, exponentsOf}
+use Rattle.trees.specs.Readings.{leftEdge, later, exponentsOf}
 use Rattle.trees.proofs.Leaves.{LeafAt, leaf-le}
 
 -- The map of x0^e0 x1^e1 …, level by level.

@@ -1,6 +1,7 @@
 -- The definitions of trees, each file after those it cites.
 pub mod Trees
 pub mod Exponents
+pub mod Readings
 pub mod Building
 pub mod Pairs
 pub mod Shapes

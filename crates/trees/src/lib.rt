@@ -6,6 +6,7 @@ use refusals::Refusal;
 
 mod count;
 mod writer;
+pub mod zeros;
 
 // The most carets of a tree: no index is above LIMIT and the exponents sum to at most LIMIT.
 pub const MAX_CARETS: usize = 2 * LIMIT + 1;

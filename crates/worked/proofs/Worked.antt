@@ -189,6 +189,8 @@ worked-forms = record {
   dead-end-spelling = refl;
   dead-end-minus = refl;
   dead-end-plus = refl;
+  dead-end-minus-labels = refl;
+  dead-end-plus-labels = refl;
 }
 
 -- Filings: the first two by computation.

@@ -3,7 +3,7 @@
 -- and its exponent, as in 01: a record is written by its two sides, or byte by byte where 01 prints its bytes; a form
 -- by its levels, `level b_0 a_0 (level b_1 a_1 …)`. N and the length of a word are those of its record.
 --     Worked        01's lines marked P, the limit, the printed table of weights, the relators, and a whole receipt
---     WorkedForms   the same lines of forms, and 000's Table 4
+--     WorkedForms   the same lines of forms, 000's Table 4, and the labels of 02, [5], for its carets
 --     WorkedRegisters   filings of 02, [3], with every byte of the register
 --     HasForm t f, HasRecord t s   the text t is a word, with the form f, with the record s
 --     Measures s n l               the record s is read, N is n and the length is l
@@ -33,6 +33,7 @@ use Rattle.records.specs.Reading.{decode}
 use Rattle.records.specs.Faults.{formRead}
 use Rattle.trees.specs.Pairs.{caretsOf, minusTree, plusTree}
 use Rattle.lengths.specs.Kinds.{Kind, L0, LL, RI, RN, R0, I0, IR, kinds}
+use Rattle.lengths.specs.Labels.{'I, 'L, 'R, 'X, labels}
 use Rattle.lengths.specs.Weights.{weight, formLength}
 use Rattle.spelling.specs.Spelling.{spelling}
 use Rattle.spelling.specs.Contracts.{spelledIn}
@@ -205,6 +206,9 @@ pub record WorkedForms : Type 0 where
   pub dead-end-spelling : wordOf "aabAAAAAbaaaB" ≡ some (spelling deadEnd)
   pub dead-end-minus : kinds (minusTree deadEnd) ≡ L0 ∷ LL ∷ LL ∷ I0 ∷ R0 ∷ R0 ∷ R0 ∷ R0 ∷ []
   pub dead-end-plus : kinds (plusTree deadEnd) ≡ L0 ∷ I0 ∷ LL ∷ LL ∷ RN ∷ RI ∷ I0 ∷ R0 ∷ []
+  -- 02, [5]: the labels of the same carets, from caret 1 on.
+  pub dead-end-minus-labels : labels (minusTree deadEnd) ≡ 'L ∷ 'L ∷ 'I ∷ 'R ∷ 'R ∷ 'R ∷ 'R ∷ []
+  pub dead-end-plus-labels : labels (plusTree deadEnd) ≡ 'I ∷ 'L ∷ 'L ∷ 'R ∷ 'X ∷ 'I ∷ 'R ∷ []
 
 -- Filings of 02, [3].
 pub record WorkedRegisters : Type 0 where

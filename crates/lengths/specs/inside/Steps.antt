@@ -1,5 +1,6 @@
 -- The steps of the reader of shapes and of the sum of weights, for the functions inside this crate.
 --     classByte      a class as it is kept in a table        kindNamed   the kind that a case of `CaretKind` names
+--     labelNamed     the label that a case of `CaretLabel` names
 --     Readable       what is left of a shape, behind the classes of the carets so far
 --     lengthWithin   the length of a pair whose shapes have room in buffers of some size
 -- Assumes nothing.
@@ -19,12 +20,15 @@ use Rattle.trees.specs.inside.ShapeReading.{Exact}
 use Rattle.trees.specs.inside.Writing.{tableCarets}
 use Rattle.lengths.specs.declared.Length.{Length}
 use Rattle.lengths.specs.declared.Length.the-variants.{Letters}
-use Rattle.lengths.specs.declared.table.CaretKind.{CaretKind}
-use Rattle.lengths.specs.declared.table.CaretKind.the-variants as Named
+use Rattle.lengths.specs.declared.kinds.CaretKind.{CaretKind}
+use Rattle.lengths.specs.declared.kinds.CaretKind.the-variants as Named
+use Rattle.lengths.specs.declared.kinds.CaretLabel.{CaretLabel}
+use Rattle.lengths.specs.declared.kinds.CaretLabel.the-variants as Label-named
 use Rattle.lengths.specs.declared.reader.Amid.{Amid}
 use Rattle.lengths.specs.declared.reader.Place.{Place}
 use Rattle.lengths.specs.Classes.{Class, onLeft, onRight, insideLeaf, insideCaret}
 use Rattle.lengths.specs.Kinds.{Kind, LL, RI, RN, R0, I0, IR, inside}
+use Rattle.lengths.specs.Labels.{Label, 'I, 'N, 'L, 'R, 'X}
 use Rattle.lengths.specs.Weights.{pairLength}
 use Rattle.lengths.specs.inside.Reading.{classesFrom, nextOnSide, pendingClasses}
 use Rattle.lengths.specs.inside.Contracts.{lengthOf, tableLength}
@@ -67,6 +71,14 @@ indexOf Named.RI = 2
 indexOf Named.LL = 3
 indexOf Named.I0 = 4
 indexOf Named.IR = 5
+
+-- The label that a case of the enum names.
+abbrev pub labelNamed : CaretLabel → Label
+labelNamed Label-named.I = 'I
+labelNamed Label-named.N = 'N
+labelNamed Label-named.L = 'L
+labelNamed Label-named.R = 'R
+labelNamed Label-named.X = 'X
 
 -- The next caret of a side, by the carets of the left side to come, and those to come behind it.
 abbrev pub onSide : ℕ → Class

@@ -1,4 +1,5 @@
 -- `record_to_length` meets its contract. Assumes nothing.
+use mathlib.Core.Path.{refl}
 use borrow.Author.Needs.{needs}
 use Rattle.records.proofs.ClearedTables.{own-cleared}
 use Rattle.pairs.proofs.Answers.{length-refused, length-answer}
@@ -48,7 +49,7 @@ returns-2 c =
     let at-enum-told = at-pair-length .before .before .before in
     let at-record-to-tables = at-enum-told .before .before .before .before in
     length-answer own-cleared (at-record-to-tables .record-to-tables .ensures) (at-enum-told .enum-told .given .1)
-    (at-pair-length .pair-length .result) _ (at-pair-length .pair-length .ensures) (c .measured .ensures)
+    (λ f. refl) (at-pair-length .pair-length .result) _ (at-pair-length .pair-length .ensures) (c .measured .ensures)
 
 pub record-to-length-spec : {M : Type 1} → statement M
 record-to-length-spec =

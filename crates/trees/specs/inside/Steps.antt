@@ -1,9 +1,7 @@
--- The steps of the shape writer and of the count of carets, for the functions inside this crate. Assumes nothing.
-use mathlib.Core.Path.{_≡_}
+-- The steps of the shape writer, for the functions inside this crate. Assumes nothing.
 use mathlib.Core.List.{List}
 use Prim.Native.Nat.{ℕ, _+_, _≤_, _<_}
 use lib.ListN.{length, drop}
-use Rattle.lists.specs.Entries.{total}
 use Rattle.lists.specs.inside.Writes.{Writing}
 use Rattle.trees.specs.declared.writer.Place.{Place}
 use Rattle.trees.specs.Building.{needed}
@@ -34,8 +32,3 @@ pub record ShapeFits (e : List ℕ) (n : ℕ) (buffer : List ℕ) : Type 0 where
 -- Trees of at most so many carets are written from a short array.
 abbrev pub smallCarets : ℕ
 smallCarets = 64
-
--- The entries of a table from i on are 0.
-pub record Unused (e : List ℕ) (i : ℕ) : Type 0 where
-  pub within : i ≤ length e
-  pub none : total (drop i e) ≡ 0

@@ -13,8 +13,8 @@ count-carets-requires c κs = search needs
 carets-in-requires : tie.Need-carets-in-requires
 carets-in-requires c κs = search needs
 
-pair-length-requires : tie.Need-pair-length-requires
-pair-length-requires c κs = search needs
+scan-length-requires : tie.Need-scan-length-requires
+scan-length-requires c κs = search needs
 
 letters-in-requires : tie.Need-letters-in-requires
 letters-in-requires c κs = search needs
@@ -36,7 +36,7 @@ returns c =
     wrote-same
     (ap₂ (λ (m n : ℕ). recordRow (x .number) (x .letters) m n (x .«record» .now))
     (carets .carets-in .ensures ∙ ap valueIn (counted .count-carets .ensures))
-    (least .letters-in .ensures ∙ ap valueIn (summed .pair-length .ensures)))
+    (least .letters-in .ensures ∙ ap valueIn (summed .scan-length .ensures)))
     (put .put-record .ensures)
 
 pub put-tables-spec : {M : Type 1} → statement M
@@ -45,7 +45,7 @@ put-tables-spec =
     (tie.spec
     count-carets-requires
     carets-in-requires
-    pair-length-requires
+    scan-length-requires
     letters-in-requires
     put-record-requires
     same-length

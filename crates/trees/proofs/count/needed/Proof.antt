@@ -1,62 +1,35 @@
--- `needed` meets its contract: the entries from i on are counted. Assumes nothing.
-use mathlib.Core.Path.{refl}
-use Prim.Native.Nat.{_-_}
+-- `count::needed` meets its contract: the entries from a place on are counted. Assumes nothing.
 use native.Mathlib.Omega.{arith}
-use Rattle.trees.proofs.Counting.{Counted, count-start, count-more, count-done}
+use Rattle.trees.specs.inside.Counting.{Counted}
+use Rattle.trees.proofs.Counting.{count-start, count-done}
 use Rattle.trees.proofs.count.needed.Statement.{statement}
 use Rattle.trees.proofs.count.needed.Tie as tie
 
 abbrev Inv-loop : tie.InvT-loop
-Inv-loop e i₀ sum₀ n₀ i sum n = Counted e i sum n
+Inv-loop e tally₀ tally = Counted e (tally .from) (tally .sum) (tally .carets)
 
 abbrev μ-loop : tie.MeasureT-loop
-μ-loop e i₀ sum₀ n₀ i sum n = i
-
-loop-holds : tie.Need-loop-holds Inv-loop μ-loop
-loop-holds c = count-start (c .used .ensures)
+μ-loop e tally₀ tally = tally .from
 
 used-requires : tie.Need-used-requires Inv-loop μ-loop
 used-requires c κs = tt
 
-sub-i : tie.Need-sub-i Inv-loop μ-loop
-sub-i c = omega arith
+loop-holds : tie.Need-loop-holds Inv-loop μ-loop
+loop-holds c = count-start (c .used .ensures)
 
-mul-exponent : tie.Need-mul-exponent Inv-loop μ-loop
-mul-exponent c = omega (arith, c .before .loop .inv .within)
-
-shared-slice-read-exponent : tie.Need-shared-slice-read-exponent Inv-loop μ-loop
-shared-slice-read-exponent c = omega (arith, c .before .before .loop .inv .within)
-
-cast-exponent : tie.Need-cast-exponent Inv-loop μ-loop
-cast-exponent c = omega (arith, c .shared-slice-known2 .given (c .before .before .loop .i - 1))
-
-add-sum : tie.Need-add-sum Inv-loop μ-loop
-add-sum c =
-    omega (arith, c .shared-slice-known2 .given (c .before .before .loop .i - 1), c .before .before .loop .inv .bound)
-
-cast-t9 : tie.Need-cast-t9 Inv-loop μ-loop
-cast-t9 c = omega (arith, c .before .before .loop .inv .within, c .before .before .before .before .before .pre)
-
-raised-requires : tie.Need-raised-requires Inv-loop μ-loop
-raised-requires c κs = omega (
-  arith,
-  c .shared-slice-known2 .given (c .before .before .loop .i - 1),
-  c .before .before .loop .inv .bound,
-  c .before .before .loop .inv .within,
-  c .before .before .before .before .before .pre,
-)
+add-block-requires : tie.Need-add-block-requires Inv-loop μ-loop
+add-block-requires c κs =
+    let loop = c .before .before in
+    record { entries = loop .before .before .before .pre; more = omega arith; counted = loop .loop .inv }
 
 loop-less : tie.Need-loop-less Inv-loop μ-loop
-loop-less c = omega arith
+loop-less c = c .add-block .ensures .on
 
 loop-again : tie.Need-loop-again Inv-loop μ-loop
-loop-again c =
-    count-more (c .before .before .before .loop .inv) _ _ _ _ (omega arith) refl
-    (omega (arith, c .before .shared-slice-known2 .given (c .before .before .before .loop .i - 1))) refl
-    (c .raised .ensures)
+loop-again c = c .add-block .ensures .counted
 
 returns : tie.Need-returns Inv-loop μ-loop
-returns c = count-done (c .before .loop .inv) (omega arith)
+returns c = count-done (c .before .before .loop .inv) (omega arith)
 
 pub needed-spec : {M : Type 1} → statement M
 needed-spec =
@@ -66,13 +39,7 @@ needed-spec =
     μ-loop
     used-requires
     loop-holds
-    sub-i
-    mul-exponent
-    shared-slice-read-exponent
-    cast-exponent
-    add-sum
-    cast-t9
-    raised-requires
+    add-block-requires
     loop-less
     loop-again
     returns)

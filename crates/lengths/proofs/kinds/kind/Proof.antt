@@ -2,8 +2,8 @@
 use native.Mathlib.Omega.{arith}
 use borrow.Author.Needs.{needs}
 use Rattle.lengths.proofs.ClassBytes.{other-kind}
-use Rattle.lengths.proofs.table.kind.Statement.{statement}
-use Rattle.lengths.proofs.table.kind.Tie as tie
+use Rattle.lengths.proofs.kinds.kind.Statement.{statement}
+use Rattle.lengths.proofs.kinds.kind.Tie as tie
 
 returns : tie.Need-returns
 returns c = search needs

@@ -1,0 +1,4 @@
+-- The constant of the code.
+pub mod Table
+-- what no claim reaches
+pub mod inside
