@@ -12,7 +12,19 @@ use Rattle.group.proofs.Exponents.{exponents-at}
 use Rattle.group.proofs.Reduced.{Canonical}
 use Rattle.group.proofs.Exchange.{exchange-canonical}
 use Rattle.geodesics.specs.Rows.{first}
-use Rattle.geodesics.proofs.Sides.{Sides, sides, putInverse, putX0, Rule, atTree, at-zero, at-next, atSecond, putLetter, sidesLength}
+use Rattle.geodesics.proofs.Sides.{
+  Sides,
+  sides,
+  putInverse,
+  putX0,
+  Rule,
+  atTree,
+  at-zero,
+  at-next,
+  atSecond,
+  putLetter,
+  sidesLength,
+}
 use Rattle.geodesics.proofs.SameRows.{length-same}
 use Rattle.geodesics.proofs.Fordham.{sidesOf}
 use Rattle.geodesics.proofs.ListProducts.{Reads, turned, times-reads}

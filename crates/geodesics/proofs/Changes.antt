@@ -15,7 +15,18 @@ use Rattle.geodesics.proofs.Columns.{ByOne, up, down, by-one-turned, fi
 use Rattle.geodesics.specs.Rows.{first, rest, row, nextOpen, nextLeft, nextRow}
 use Rattle.geodesics.proofs.Rows.{open-more, closed-more, remaining-swap, cost-closed}
 use Rattle.geodesics.proofs.Splits.{split-open, reduce-open}
-use Rattle.geodesics.proofs.Sides.{Sides, sides, putInverseBy, putInverse, putX0By, putX0, Rule, atTree, at-zero, at-next}
+use Rattle.geodesics.proofs.Sides.{
+  Sides,
+  sides,
+  putInverseBy,
+  putInverse,
+  putX0By,
+  putX0,
+  Rule,
+  atTree,
+  at-zero,
+  at-next,
+}
 
 -- Over a caret of the left side it makes no difference what is behind.
 pub over-left : (p l e f s : ℕ) → column (labelBy p l e) 'L s ≡ column (labelBy p l f) 'L s

@@ -13,7 +13,19 @@ use Rattle.geodesics.specs.inside.Costs.{cost}
 use Rattle.geodesics.proofs.Rows.{closed-more}
 use Rattle.geodesics.proofs.Splits.{reduce-left, reduce-open}
 use Rattle.geodesics.proofs.Choices.{choose-right, choose-inside, choose-open}
-use Rattle.geodesics.proofs.Sides.{Sides, sides, levelOn, putInverseBy, putInverse, putX0, atTree, at-zero, at-suc, putLetter, sumTo}
+use Rattle.geodesics.proofs.Sides.{
+  Sides,
+  sides,
+  levelOn,
+  putInverseBy,
+  putInverse,
+  putX0,
+  atTree,
+  at-zero,
+  at-suc,
+  putLetter,
+  sumTo,
+}
 use Rattle.geodesics.proofs.Lowered.{by-A, by-a, by-b, by-B, Lowers, left-lowers}
 use Rattle.geodesics.proofs.LetterChanges.{Fits}
 

@@ -8,7 +8,15 @@ use native.Mathlib.Omega.{arith}
 use Rattle.lengths.specs.Labels.{Label, 'L, 'R}
 use Rattle.geodesics.specs.Rows.{first, rest, Row, row, nextRow}
 use Rattle.geodesics.specs.inside.Costs.{insideLabel, rowLabel, column, cost, remaining, Closed}
-use Rattle.geodesics.proofs.Columns.{columns, ByOne, column-left, column-inside, fixed-left, fixed-inside, fixed-by-one}
+use Rattle.geodesics.proofs.Columns.{
+  columns,
+  ByOne,
+  column-left,
+  column-inside,
+  fixed-left,
+  fixed-inside,
+  fixed-by-one,
+}
 
 -- The labels of n carets.
 abbrev pub rowLabels : ℕ → Row → List Label

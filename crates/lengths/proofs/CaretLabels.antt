@@ -17,7 +17,20 @@ use Rattle.group.specs.Points.{𝟏}
 use Rattle.trees.specs.Trees.{Tree, leaf, caret, carets, Address, IsCaret, Subtree}
 use Rattle.lengths.specs.Classes.{Class, onLeft, onRight, insideLeaf, insideCaret}
 use Rattle.lengths.specs.Kinds.{Kind, L0, LL, RI, RN, R0, I0, IR, RightLeaf, IsKind, rightKind, kindOf, kinds}
-use Rattle.lengths.specs.Labels.{Label, 'I, 'N, 'L, 'R, 'X, RightCaret, IsLabel, labelOf, labelsOf, behindFirst, labels}
+use Rattle.lengths.specs.Labels.{
+  Label,
+  'I,
+  'N,
+  'L,
+  'R,
+  'X,
+  RightCaret,
+  IsLabel,
+  labelOf,
+  labelsOf,
+  behindFirst,
+  labels,
+}
 use Rattle.lengths.proofs.CaretClasses.{child-of, right-caret}
 use Rattle.lengths.proofs.CaretKinds.{kinds-numbered, next, next-is, some, later-entry, kind-at, one-kind}
 

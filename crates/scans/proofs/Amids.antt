@@ -16,7 +16,8 @@ use Rattle.scans.proofs.Stretches.{skip, skip-closed, skip-cost}
 
 -- n columns of the labels x over y, and m behind them.
 module _ (n m : ℕ) {u v : Row} {t : Tally} {w : ℕ} (h : Amid (n + m) u v t w) (x y : Label)
-    (hu : (i : ℕ) → i < n → rowLabel (skip i u) ≡ x) (hv : (i : ℕ) → i < n → rowLabel (skip i v) ≡ y) (some : 1 ≤ n) where
+    (hu : (i : ℕ) → i < n → rowLabel (skip i u) ≡ x) (hv : (i : ℕ) → i < n → rowLabel (skip i v) ≡ y)
+    (some : 1 ≤ n) where
   abbrev behind : ℕ
   behind = cost m (skip n u) (skip n v)
 

@@ -46,7 +46,8 @@ left-next zero (suc l) = rw (above l) (omega arith)
 left-next (suc s) l = rw (above s) (omega arith)
 
 -- The tree at the next caret.
-pub next-side : (t : Side) (e i j : ℕ) → i ≡ bitOf (leb 1 (t .subtrees)) → j ≡ bitOf (onLeftSide (t .subtrees) (t .lefts))
+pub next-side : (t : Side) (e i j : ℕ) → i ≡ bitOf (leb 1 (t .subtrees))
+    → j ≡ bitOf (onLeftSide (t .subtrees) (t .lefts))
     → record { subtrees = t .subtrees - i + e; lefts = t .lefts - j } ≡ nextSide t e
 next-side t e i j ei ej =
     rw (ei, ej)

@@ -12,7 +12,24 @@ use lib.Seq.{drop-drop, getD-drop}
 use lib.Dec.{ltb}
 use borrow.Author.Tests.{ltb-true, ltb-false}
 use Rattle.scans.specs.declared.columns.State.{State}
-use Rattle.scans.specs.inside.Steps.{least, runBy, runOf, RunsBy, Runs, columnOf, Ready, stretchedBy, Stretch, AmidAt, Zeros, Passing, Passed, Reached, Scanning, Scanned}
+use Rattle.scans.specs.inside.Steps.{
+  least,
+  runBy,
+  runOf,
+  RunsBy,
+  Runs,
+  columnOf,
+  Ready,
+  stretchedBy,
+  Stretch,
+  AmidAt,
+  Zeros,
+  Passing,
+  Passed,
+  Reached,
+  Scanning,
+  Scanned,
+}
 use Rattle.scans.proofs.Stretches.{runs-fewer}
 use Rattle.scans.proofs.Reaching.{column-ready, column-reached, run-room, amid-run}
 
@@ -143,7 +160,8 @@ module _ {count left : ℕ} {s r : State} (h : Passing count s) (p : PassedTo co
     parts = omega (arith, p .parts, stretch-few);
     amid = λ es fs m w ze zf q.
         let here = ahead (drop (p .gone) es) (drop (p .gone) fs) m w (p .amid es fs m w ze zf q) in
-        let there = amid-run c (left - c + m) here (zeros-left es ze) (zeros-left fs zf) minus-runs plus-runs stretch-some in
+        let there =
+        amid-run c (left - c + m) here (zeros-left es ze) (zeros-left fs zf) minus-runs plus-runs stretch-some in
         subst (λ (x : State). AmidAt (left - c + m) (drop (p .gone + c) es) (drop (p .gone + c) fs) x w) (sym is)
         (subst₂ (λ (xs ys : List ℕ). AmidAt (left - c + m) xs ys (stretchedBy r c) w) (drop-drop c (p .gone) es)
         (drop-drop c (p .gone) fs) there);

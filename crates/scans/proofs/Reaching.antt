@@ -17,7 +17,27 @@ use Rattle.geodesics.proofs.SideLengths.{closed-total}
 use Rattle.scans.specs.declared.sides.Side.{Side}
 use Rattle.scans.specs.declared.table.Tally.{Tally}
 use Rattle.scans.specs.declared.columns.State.{State}
-use Rattle.scans.specs.inside.Steps.{nextSide, Runs, Room, weighing, waiting, added, labelAt, columnOf, stretchedBy, Ready, held, Amid, rowAt, AmidAt, Zeros, Passed, Reached, startSide, PairOfTables}
+use Rattle.scans.specs.inside.Steps.{
+  nextSide,
+  Runs,
+  Room,
+  weighing,
+  waiting,
+  added,
+  labelAt,
+  columnOf,
+  stretchedBy,
+  Ready,
+  held,
+  Amid,
+  rowAt,
+  AmidAt,
+  Zeros,
+  Passed,
+  Reached,
+  startSide,
+  PairOfTables,
+}
 use Rattle.scans.proofs.Tallies.{held-none}
 use Rattle.scans.proofs.Stretches.{skip, first-drop, rest-drop, skip-run, run-label}
 use Rattle.scans.proofs.Amids.{amid-room, amid-columns, amid-done}

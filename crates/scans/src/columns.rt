@@ -10,6 +10,7 @@ use crate::sides::pass;
 use crate::sides::run;
 use crate::table::Tally;
 use crate::table::add_columns;
+use refusals::LeafNumber;
 
 // Both trees at a caret, and the sum of the columns before it.
 pub struct State {
@@ -18,10 +19,11 @@ pub struct State {
     pub tally: Tally,
 }
 
-// The exponent of x_i; those behind the table's end are 0.
-pub fn entry(e: &[u16], i: usize) -> u16
-    ensures { λ r. ⌜ r ≡ getD (now (e .entry)) i 0 ⌝ }
+// The exponent of a leaf: that of the generator with its number; those behind the table's end are 0.
+pub fn exponent(e: &[u16], leaf: LeafNumber) -> u16
+    ensures { λ r. ⌜ r ≡ getD (now (e .entry)) (leaf .0) 0 ⌝ }
 {
+    let i = leaf.0 as usize;
     if i < e.len() { e[i] } else { 0 }
 }
 
@@ -43,24 +45,29 @@ fn column(labels: &[u8], s: State, e: u16, f: u16) -> State
     }
 }
 
-// The columns up to the one in front of the leaf `stop`.
+// The columns from the caret in front of a leaf on, up to the one in front of the leaf `stop`, which is left.
 pub fn plain_columns(
     labels: &[u8],
     b: &[u16],
     a: &[u16],
-    from: usize,
-    stop: usize,
+    from: LeafNumber,
+    stop: LeafNumber,
     state: State,
 ) -> State
     requires { ⌜ Labels (now labels) ⌝ }
-    requires { ⌜ Scanning (now b) (now a) from stop state ⌝ }
-    ensures { λ r. ⌜ Scanned (now (b .entry)) (now (a .entry)) from stop state r ⌝ }
+    requires { ⌜ Scanning (now b) (now a) (from .0) (stop .0) state ⌝ }
+    ensures { λ r. ⌜ Scanned (now (b .entry)) (now (a .entry)) (from .0) (stop .0) state r ⌝ }
 {
     let mut s = state;
-    let mut i = from;
-    while i < stop {
-        s = column(labels, s, entry(a, i), entry(b, i));
-        i += 1;
+    let mut leaf = from.0;
+    while leaf < stop.0 {
+        s = column(
+            labels,
+            s,
+            exponent(a, LeafNumber(leaf)),
+            exponent(b, LeafNumber(leaf)),
+        );
+        leaf += 1;
     }
     s
 }

@@ -11,11 +11,12 @@ use crate::sides::Side;
 use crate::sides::bit;
 use crate::sides::class;
 use lengths::kinds::CaretLabel;
+use lengths::kinds::INSIDE_CARET;
 use lengths::kinds::kind;
 use lengths::kinds::label;
 
-// The classes of carets.
-const CLASSES: u8 = 4;
+// The classes of carets; INSIDE_CARET is the last.
+const CLASSES: u8 = INSIDE_CARET + 1;
 
 // The labels of the classes, of each where the next caret is not interior and where it is.
 pub const LABELS: usize = 8;

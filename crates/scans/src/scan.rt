@@ -6,19 +6,20 @@ ghost use Rattle.trees.specs.Pairs.{maxCarets};
 ghost use Rattle.lengths.specs.Weights.{pairLength};
 ghost use Rattle.scans.specs.inside.Steps.{Labels, startSide, PairOfTables, BlockAhead, BlockEnd, BlockScanned};
 use crate::columns::State;
-use crate::columns::entry;
+use crate::columns::exponent;
 use crate::columns::plain_columns;
 use crate::columns::zero_columns;
 use crate::labels::LABELS;
 use crate::labels::read_labels;
 use crate::sides::Side;
 use crate::table::Tally;
+use refusals::LeafNumber;
 use trees::zeros::BLOCK;
 use trees::zeros::known_zeros;
 
 // The leaf that the scan has reached: it is behind the caret of the next column.
 pub struct Place {
-    pub leaf: usize,
+    pub leaf: LeafNumber,
     pub state: State,
 }
 
@@ -27,22 +28,22 @@ fn side_at_one(e: &[u16]) -> Side
     ensures { λ r. ⌜ r ≡ startSide (now (e .entry)) ⌝ }
 {
     Side {
-        subtrees: entry(e, 1) as usize,
-        lefts: entry(e, 0) as usize,
+        subtrees: exponent(e, LeafNumber(1)) as usize,
+        lefts: exponent(e, LeafNumber(0)) as usize,
     }
 }
 
 // Where the columns from a leaf on that are weighed one by one end: a block, or what is left of the n carets.
-fn block_end(leaf: usize, n: usize) -> usize
-    requires { ⌜ leaf ≤ n ⌝ }
+fn block_end(leaf: LeafNumber, n: usize) -> LeafNumber
+    requires { ⌜ leaf .0 ≤ n ⌝ }
     requires { ⌜ n ≤ maxCarets ⌝ }
-    ensures { λ r. ⌜ BlockEnd leaf n r ⌝ }
+    ensures { λ r. ⌜ BlockEnd (leaf .0) n (r .0) ⌝ }
 {
-    if n - leaf < BLOCK {
-        n + 1
-    } else {
-        leaf + BLOCK
+    let i = leaf.0 as usize;
+    if n - i < BLOCK {
+        return LeafNumber((n + 1) as u16);
     }
+    LeafNumber((i + BLOCK) as u16)
 }
 
 // A block of columns, or all that are known to have no exponent behind them.
@@ -51,10 +52,11 @@ fn scan_block(labels: &[u8], b: &[u16], a: &[u16], n: usize, p: Place) -> Place
     requires { ⌜ BlockAhead (now b) (now a) n p ⌝ }
     ensures { λ r. ⌜ BlockScanned (now (b .entry)) (now (a .entry)) n p r ⌝ }
 {
-    let zeros = known_zeros(b, p.leaf, known_zeros(a, p.leaf, n + 1 - p.leaf));
+    let i = p.leaf.0 as usize;
+    let zeros = known_zeros(b, i, known_zeros(a, i, n + 1 - i));
     if zeros > 0 {
         return Place {
-            leaf: p.leaf + zeros,
+            leaf: LeafNumber((i + zeros) as u16),
             state: zero_columns(labels, zeros, p.state),
         };
     }
@@ -74,14 +76,14 @@ pub fn scan(b: &[u16], a: &[u16], n: usize) -> usize
     let mut labels = [0u8; LABELS];
     read_labels(&mut labels);
     let mut p = Place {
-        leaf: 2,
+        leaf: LeafNumber(2),
         state: State {
             minus: side_at_one(a),
             plus: side_at_one(b),
             tally: Tally { sum: 0, pending: 0 },
         },
     };
-    while p.leaf <= n {
+    while p.leaf.0 as usize <= n {
         p = scan_block(&labels, b, a, n, p);
     }
     p.state.tally.sum as usize

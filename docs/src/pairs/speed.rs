@@ -1,6 +1,7 @@
 // Tree pair and length: the proved library against a plain Rust program, and its time in two sizes.
 // Both are compared on many records, those that are timed too: the number of carets, every byte of the two buffers, and
-// the length, which is held to the shortest words as well. The library is timed on forms of each kind, in two sizes.
+// the length by both calls, which is held to the shortest words as well. The library is timed on forms of each kind, in
+// two sizes, and its two calls for the length side by side on small forms.
 
 mod forms;
 mod plain;
@@ -15,6 +16,8 @@ const RUNS: usize = 11;
 const LIMIT: usize = 4096;
 const CARETS: usize = 2 * LIMIT + 1;
 const SHAPE: usize = 2 * CARETS + 1;
+// No form of this size has more than 16 carets.
+const SMALL: usize = 7;
 
 #[repr(C)]
 #[derive(Clone, Copy, PartialEq, Eq, Debug)]
@@ -44,6 +47,7 @@ extern "C" {
         t_plus_len: usize,
     ) -> Answer;
     fn thompson_record_to_length(record: *const u8, record_len: usize) -> Answer;
+    fn thompson_record_to_label_length(record: *const u8, record_len: usize) -> Answer;
     fn clock_gettime(clock: i32, seconds_and_nanoseconds: *mut [i64; 2]) -> i32;
 }
 
@@ -90,6 +94,10 @@ fn length(record: &[u8]) -> Answer {
     unsafe { thompson_record_to_length(record.as_ptr(), record.len()) }
 }
 
+fn label_length(record: &[u8]) -> Answer {
+    unsafe { thompson_record_to_label_length(record.as_ptr(), record.len()) }
+}
+
 // The records that were compared, and of those since the last line: how many, the most carets, the longest.
 #[derive(Default)]
 struct Compared {
@@ -126,6 +134,7 @@ impl Compared {
         self.same("carets", tree_pair(record, m, p) == Answer { refusal: 0, value: n as u64 }, record);
         self.same("shapes", buffers == shapes, record);
         self.same("length", length(record) == Answer { refusal: 0, value: letters }, record);
+        self.same("length by labels", label_length(record) == Answer { refusal: 0, value: letters }, record);
         self.records += 1;
         self.most_carets = self.most_carets.max(n);
         self.longest = self.longest.max(letters);
@@ -138,7 +147,7 @@ impl Compared {
         true
     }
 
-    // Any bytes: where the check refuses them, both calls refuse them in the same way and nothing is touched.
+    // Any bytes: where the check refuses them, all calls refuse them in the same way and nothing is touched.
     fn refused(&mut self, record: &[u8]) -> bool {
         let r = check_record(record);
         if r.refusal == 0 {
@@ -149,6 +158,7 @@ impl Compared {
         self.same("refusal of the pair", tree_pair(record, &mut m, &mut p) == r, record);
         self.same("buffers at a refusal", m.iter().chain(&p).all(|&x| x == 0xee), record);
         self.same("refusal of the length", length(record) == r, record);
+        self.same("refusal of the length by labels", label_length(record) == r, record);
         true
     }
 
@@ -209,7 +219,7 @@ fn compare_forms(c: &mut Compared, random: &mut Random) {
         }
         c.print(kind.name);
     }
-    println!("of these, with a bit changed or cut short: {refused} refused by both calls as by the check");
+    println!("of these, with a bit changed or cut short: {refused} refused by all three calls as by the check");
 }
 
 // The time that this thread ran, in microseconds: that of other work on the machine does not count.
@@ -234,6 +244,79 @@ fn median(mut times: Vec<f64>) -> f64 {
     times[times.len() / 2]
 }
 
+// Each call on forms of each kind, n = LIMIT and half of it in turn.
+fn time_forms(c: &mut Compared, random: &mut Random) {
+    println!("times of the thread in us, median of {RUNS} runs, n = {LIMIT} and {} in turn in each run", LIMIT / 2);
+    println!(
+        "{:<28}{:>8}{:>8} |{:>9}{:>9}{:>7} |{:>9}{:>9}{:>7} |{:>9}{:>9}{:>7}{:>10}",
+        "form",
+        "carets",
+        "half",
+        "pair",
+        "half",
+        "ratio",
+        "length",
+        "half",
+        "ratio",
+        "labels",
+        "half",
+        "ratio",
+        "of length"
+    );
+    let mut m = vec![0u8; SHAPE];
+    let mut p = vec![0u8; SHAPE];
+    for kind in forms::KINDS {
+        let sizes = [LIMIT, LIMIT / 2];
+        let sets = sizes.map(|n| (0..200).map(|_| forms::record(kind, n, random)).collect::<Vec<_>>());
+        for record in sets.iter().flatten() {
+            c.record(record, 0);
+        }
+        let carets = [0, 1].map(|k| sets[k].iter().map(|r| tree_pair(r, &mut m, &mut p).value).sum::<u64>() / 200);
+        let mut pair = |record: &[u8]| tree_pair(record, &mut m, &mut p);
+        let mut times = [(); 6].map(|_| Vec::new());
+        for _ in 0..RUNS {
+            for k in 0..2 {
+                times[k].push(time(&mut pair, &sets[k]));
+                times[2 + k].push(time(&mut length, &sets[k]));
+                times[4 + k].push(time(&mut label_length, &sets[k]));
+            }
+        }
+        let [x, y, u, v, w, z] = times.map(median);
+        println!(
+            "{:<28}{:>8}{:>8} |{x:>9.2}{y:>9.2}{:>7.2} |{u:>9.2}{v:>9.2}{:>7.2} |{w:>9.2}{z:>9.2}{:>7.2}{:>10.3}",
+            kind.name,
+            carets[0],
+            carets[1],
+            x / y,
+            u / v,
+            w / z,
+            w / u,
+        );
+    }
+}
+
+// Both calls for the length on forms of at most 16 carets, many of each kind.
+fn time_small(c: &mut Compared, random: &mut Random) {
+    println!("small forms, n = {SMALL}: times of the thread in us, median of {RUNS} runs, both calls in turn");
+    println!("{:<28}{:>8} |{:>9}{:>9}{:>10}", "form", "carets", "length", "labels", "of length");
+    for kind in forms::KINDS {
+        let set: Vec<_> = (0..2000).map(|_| forms::record(kind, SMALL, random)).collect();
+        for record in &set {
+            c.record(record, 0);
+        }
+        let mut m = vec![0u8; SHAPE];
+        let mut p = vec![0u8; SHAPE];
+        let carets = set.iter().map(|r| tree_pair(r, &mut m, &mut p).value).max().unwrap();
+        let mut times = [(); 2].map(|_| Vec::new());
+        for _ in 0..RUNS {
+            times[0].push(time(&mut length, &set));
+            times[1].push(time(&mut label_length, &set));
+        }
+        let [u, w] = times.map(median);
+        println!("{:<28}{carets:>8} |{u:>9.3}{w:>9.3}{:>10.3}", kind.name, w / u);
+    }
+}
+
 fn main() {
     let mut random = Random::new(SEED + 2);
     println!("tree pair and length, seed {SEED:#018x}");
@@ -242,42 +325,9 @@ fn main() {
     compare_words(&mut c, &mut random);
     compare_forms(&mut c, &mut random);
     println!();
-    println!("times of the thread in us, median of {RUNS} runs, n = {LIMIT} and {} in turn in each run", LIMIT / 2);
-    println!(
-        "{:<28}{:>8}{:>8} |{:>9}{:>9}{:>7} |{:>9}{:>9}{:>7}",
-        "form", "carets", "half", "pair", "half", "ratio", "length", "half", "ratio"
-    );
-    let mut m = vec![0u8; SHAPE];
-    let mut p = vec![0u8; SHAPE];
-    for kind in forms::KINDS {
-        let sizes = [LIMIT, LIMIT / 2];
-        let sets = sizes.map(|n| (0..200).map(|_| forms::record(kind, n, &mut random)).collect::<Vec<_>>());
-        for record in sets.iter().flatten() {
-            c.record(record, 0);
-        }
-        let carets = [0, 1].map(|k| sets[k].iter().map(|r| tree_pair(r, &mut m, &mut p).value).sum::<u64>() / 200);
-        let mut pair = |record: &[u8]| tree_pair(record, &mut m, &mut p);
-        let mut times = [(); 4].map(|_| Vec::new());
-        for _ in 0..RUNS {
-            for k in 0..2 {
-                times[k].push(time(&mut pair, &sets[k]));
-                times[2 + k].push(time(&mut length, &sets[k]));
-            }
-        }
-        let [x, y, u, v] = times.map(median);
-        println!(
-            "{:<28}{:>8}{:>8} |{:>9.2}{:>9.2}{:>7.2} |{:>9.2}{:>9.2}{:>7.2}",
-            kind.name,
-            carets[0],
-            carets[1],
-            x,
-            y,
-            x / y,
-            u,
-            v,
-            u / v
-        );
-    }
+    time_forms(&mut c, &mut random);
+    println!();
+    time_small(&mut c, &mut random);
     println!();
     println!("{} different records, those that are timed too: {} mismatches", c.seen.len(), c.mismatches);
     if c.mismatches > 0 {

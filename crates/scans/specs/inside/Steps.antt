@@ -196,13 +196,13 @@ pub record BlockEnd (leaf n r : ℕ) : Type 0 where
 -- A block is to come, and was weighed.
 pub record BlockAhead (b a : List ℕ) (n : ℕ) (p : Place) : Type 0 where
   pub total : ℕ
-  pub reached : Reached b a n (p .leaf) total (p .state)
-  pub more : p .leaf ≤ n
+  pub reached : Reached b a n (p .leaf .0) total (p .state)
+  pub more : p .leaf .0 ≤ n
   pub small : n ≤ maxCarets
 
 pub record BlockScanned (b a : List ℕ) (n : ℕ) (p r : Place) : Type 0 where
-  pub on : p .leaf < r .leaf
-  pub reached : (w : ℕ) → Reached b a n (p .leaf) w (p .state) → Reached b a n (r .leaf) w (r .state)
+  pub on : p .leaf .0 < r .leaf .0
+  pub reached : (w : ℕ) → Reached b a n (p .leaf .0) w (p .state) → Reached b a n (r .leaf .0) w (r .state)
 
 -- A tree at caret 1.
 abbrev pub startSide : List ℕ → Side

@@ -21,8 +21,9 @@ add-columns-requires : tie.Need-add-columns-requires
 add-columns-requires c κs =
     let start = c .before .before .before .before .before in
     let s = start .args .s in
-    numbered-room (s .tally) (labelAt (s .minus) (start .args .e)) (labelAt (s .plus) (start .args .f)) _ _ 1 (c .before .label-at .ensures)
-    (c .label-at2 .ensures) (start .pre .1 .room)
+    let x = labelAt (s .minus) (start .args .e) in
+    let y = labelAt (s .plus) (start .args .f) in
+    numbered-room (s .tally) x y _ _ 1 (c .before .label-at .ensures) (c .label-at2 .ensures) (start .pre .1 .room)
 
 returns : tie.Need-returns
 returns c =

@@ -24,7 +24,8 @@ add-columns-requires : tie.Need-add-columns-requires
 add-columns-requires c κs =
     let start = c .before .before .before .before .before in
     let s = start .args .s in
-    numbered-room (s .tally) (labelAt (s .minus) 0) (labelAt (s .plus) 0) _ _ (start .args .count) (c .before .label-at .ensures)
+    let n = start .args .count in
+    numbered-room (s .tally) (labelAt (s .minus) 0) (labelAt (s .plus) 0) _ _ n (c .before .label-at .ensures)
     (c .label-at2 .ensures) (start .pre .1 .room)
 
 returns : tie.Need-returns

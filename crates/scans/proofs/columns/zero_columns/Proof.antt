@@ -1,6 +1,14 @@
 -- `zero_columns` meets its contract. Assumes nothing.
 use native.Mathlib.Omega.{arith}
-use Rattle.scans.proofs.Loops.{PassedTo, pass-start, stretch-some, stretch-few, pass-stretch, pass-more, pass-done}
+use Rattle.scans.proofs.Loops.{
+  PassedTo,
+  pass-start,
+  stretch-some,
+  stretch-few,
+  pass-stretch,
+  pass-more,
+  pass-done,
+}
 use Rattle.scans.proofs.columns.zero_columns.Statement.{statement}
 use Rattle.scans.proofs.columns.zero_columns.Tie as tie
 
@@ -23,13 +31,17 @@ stretch-requires : tie.Need-stretch-requires Inv-loop μ-loop
 stretch-requires c κs =
     let loop = c .before .before .before in
     let start = loop .before .before in
-    (start .pre .0, pass-stretch (start .pre .1) (loop .loop .inv) (omega arith) _ _ (c .before .run .ensures) (c .run2 .ensures))
+    let first = c .before .run in (
+      start .pre .0,
+      pass-stretch (start .pre .1) (loop .loop .inv) (omega arith) _ _ (first .ensures) (c .run2 .ensures),
+    )
 
 sub-left : tie.Need-sub-left Inv-loop μ-loop
 sub-left c =
     let loop = c .before .before .before .before in
     let start = loop .before .before in
-    stretch-few (start .pre .1) (loop .loop .inv) (omega arith) _ _ (c .before .before .run .ensures) (c .before .run2 .ensures)
+    stretch-few (start .pre .1) (loop .loop .inv) (omega arith) _ _ (c .before .before .run .ensures)
+    (c .before .run2 .ensures)
 
 loop-less : tie.Need-loop-less Inv-loop μ-loop
 loop-less c =

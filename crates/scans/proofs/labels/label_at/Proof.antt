@@ -36,7 +36,9 @@ shared-slice-read-result c =
     )
 
 cast-result-3 : tie.Need-cast-result-3
-cast-result-3 c = omega (arith, c .shared-slice-known2 .given (2 * c .before .class .result + c .before .before .bit .result))
+cast-result-3 c =
+    let place = 2 * c .before .class .result + c .before .before .bit .result in
+    omega (arith, c .shared-slice-known2 .given place)
 
 returns : tie.Need-returns
 returns c =

@@ -11,10 +11,10 @@ use Rattle.scans.proofs.scan.scan.Statement.{statement}
 use Rattle.scans.proofs.scan.scan.Tie as tie
 
 abbrev Inv-loop : tie.InvT-loop
-Inv-loop b a n labels p₀ p = Reached b a n (p .leaf) (pairLength (treeOf n a) (treeOf n b)) (p .state)
+Inv-loop b a n labels p₀ p = Reached b a n (p .leaf .0) (pairLength (treeOf n a) (treeOf n b)) (p .state)
 
 abbrev μ-loop : tie.MeasureT-loop
-μ-loop b a n labels p₀ p = suc n - p .leaf
+μ-loop b a n labels p₀ p = suc n - p .leaf .0
 
 slice-aggregate-read-labels : tie.Need-slice-aggregate-read-labels Inv-loop μ-loop
 slice-aggregate-read-labels c = search needs
@@ -33,6 +33,13 @@ loop-holds c =
     let first = c .before in
     let start = first .before .before .before .before .before .before in
     scan-started _ _ _ _ _ (start .pre .0) (start .pre .1) (first .side-at-one .ensures) (c .side-at-one2 .ensures)
+
+cast-if1 : tie.Need-cast-if1 Inv-loop μ-loop
+cast-if1 c =
+    let loop = c .before in
+    let filled = loop .before .before .before .before in
+    let start = filled .before .before .before .before in
+    omega (arith, loop .loop .inv .to-come, start .pre .1 .small)
 
 slice-aggregate-scan-block : tie.Need-slice-aggregate-scan-block Inv-loop μ-loop
 slice-aggregate-scan-block c = search needs
@@ -71,6 +78,7 @@ scan-spec =
     side-at-one-requires
     side-at-one-requires-2
     loop-holds
+    cast-if1
     slice-aggregate-scan-block
     scan-block-requires
     loop-less

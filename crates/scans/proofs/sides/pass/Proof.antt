@@ -15,7 +15,8 @@ returns c = passed-inside (c .before .before .before .args .side) (c .before .be
 sub-t5 : tie.Need-sub-t5
 sub-t5 c =
     let start = c .before .before .before .before .before in
-    runs-left (start .args .count) (start .args .side .subtrees) (start .args .side .lefts) (omega arith) (omega arith) (start .pre)
+    let side = start .args .side in
+    runs-left (start .args .count) (side .subtrees) (side .lefts) (omega arith) (omega arith) (start .pre)
 
 returns-2 : tie.Need-returns-2
 returns-2 c =

@@ -19,7 +19,8 @@ smaller-requires-2 c κs = search needs
 returns-2 : tie.Need-returns-2
 returns-2 c =
     let args = c .before .before .before .before .before .args in
-    run-left (args .side .subtrees) (args .side .lefts) (args .most) _ (omega arith) (omega arith) (c .smaller2 .ensures)
+    let side = args .side in
+    run-left (side .subtrees) (side .lefts) (args .most) _ (omega arith) (omega arith) (c .smaller2 .ensures)
 
 returns-3 : tie.Need-returns-3
 returns-3 c =

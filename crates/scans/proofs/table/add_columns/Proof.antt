@@ -28,7 +28,8 @@ returns c =
     let first = c .before .before in
     let args = first .before .args in
     c .join .ensures
-    ∙ ap₂ (λ (w : ℕ) (q : Bool). tallied (args .t) (w * args .count) q) (first .weight .ensures) (c .before .both-right .ensures)
+    ∙ ap₂ (λ (w : ℕ) (q : Bool). tallied (args .t) (w * args .count) q) (first .weight .ensures)
+    (c .before .both-right .ensures)
 
 pub add-columns-spec : {M : Type 1} → statement M
 add-columns-spec =
