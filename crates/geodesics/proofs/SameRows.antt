@@ -17,7 +17,7 @@ first-same [] (f ∷ fs) h = h 0
 first-same (e ∷ es) [] h = h 0
 first-same (e ∷ es) (f ∷ fs) h = h 0
 
-rest-at : (es : List ℕ) (i : ℕ) → getD (rest es) i 0 ≡ getD es (suc i) 0
+pub rest-at : (es : List ℕ) (i : ℕ) → getD (rest es) i 0 ≡ getD es (suc i) 0
 rest-at [] i = refl
 rest-at (e ∷ es) i = refl
 

@@ -27,7 +27,7 @@ other-kind (suc (suc zero)) next later h0 h2 h1 = absurd (h2 refl)
 other-kind (suc (suc (suc b))) next later h0 h2 h1 = refl
 
 -- Reading the bytes of classes gives the classes.
-class-read : (c : Class) → classOf (classByte c) ≡ c
+pub class-read : (c : Class) → classOf (classByte c) ≡ c
 class-read onLeft = refl
 class-read onRight = refl
 class-read insideLeaf = refl

@@ -2,12 +2,11 @@
 -- rows and columns.
 -- Assumes nothing.
 use mathlib.Core.Path.{_≡_, refl, ap₂, _∙_}
-use mathlib.Core.Bool.{Bool}
 use mathlib.Core.List.{[], _∷_}
 use Prim.Native.Nat.{ℕ, _<_}
-use lib.Dec.{T, eqb, eqb→eq, lit<}
+use lib.Dec.{eqb, eqb→eq, lit<}
 use lib.ListN.{getD}
-use Rattle.lists.proofs.Tests.{all, all-at}
+use Rattle.lists.proofs.Tests.{all-entries}
 use Rattle.lengths.specs.declared.kinds.CaretKind.{CaretKind}
 use Rattle.lengths.specs.declared.kinds.CaretKind.the-variants as Named
 use Rattle.lengths.specs.Kinds.{Kind, L0, LL, RI, RN, R0, I0, IR}
@@ -34,15 +33,11 @@ row-kind Named.LL = refl
 row-kind Named.I0 = refl
 row-kind Named.IR = refl
 
--- A test of a row and a column that passes at all of them.
-all-entries : (f : ℕ → ℕ → Bool) → T (all 6 (λ i. all 6 (f i))) → (i j : ℕ) → i < 6 → j < 6 → T (f i j)
-all-entries f h i j hi hj = all-at 6 (f i) (all-at 6 (λ i. all 6 (f i)) h i hi) j hj
-
 -- Each tableEntry is the weight of the two kinds.
 entry-weight : (i j : ℕ) → i < 6 → j < 6 → tableEntry i j ≡ weight (rowKind i) (rowKind j)
 entry-weight i j hi hj =
     eqb→eq (tableEntry i j) (weight (rowKind i) (rowKind j))
-    (all-entries (λ i j. eqb (tableEntry i j) (weight (rowKind i) (rowKind j))) tt i j hi hj)
+    (all-entries 6 (λ i j. eqb (tableEntry i j) (weight (rowKind i) (rowKind j))) tt i j hi hj)
 
 pub table-weight : (x y : CaretKind) (i j : ℕ) → i ≡ indexOf x → j ≡ indexOf y
     → tableEntry i j ≡ weight (kindNamed x) (kindNamed y)
@@ -54,4 +49,4 @@ table-weight x y i j ei ej =
 -- The table is symmetric.
 pub table-symmetric : (i j : ℕ) → i < 6 → j < 6 → tableEntry i j ≡ tableEntry j i
 table-symmetric i j hi hj =
-    eqb→eq (tableEntry i j) (tableEntry j i) (all-entries (λ i j. eqb (tableEntry i j) (tableEntry j i)) tt i j hi hj)
+    eqb→eq (tableEntry i j) (tableEntry j i) (all-entries 6 (λ i j. eqb (tableEntry i j) (tableEntry j i)) tt i j hi hj)

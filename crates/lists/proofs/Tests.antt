@@ -31,3 +31,7 @@ all-at zero f t k h = absurd (not-suc-le-zero h)
 all-at (suc n) f t k h =
     ⊎-elim (λ e. subst (λ (m : ℕ). T (f m)) (sym e) (both-first (f n) (all n f) t))
     (λ l. all-at n f (both-second (f n) (all n f) t) k l) (eq-or-lt-of-le (le-of-suc-le-suc h))
+
+-- A test of a row and a column that passes at all of them.
+pub all-entries : (n : ℕ) (f : ℕ → ℕ → Bool) → T (all n (λ i. all n (f i))) → (i j : ℕ) → i < n → j < n → T (f i j)
+all-entries n f h i j hi hj = all-at n (f i) (all-at n (λ i. all n (f i)) h i hi) j hj

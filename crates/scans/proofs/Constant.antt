@@ -2,12 +2,11 @@
 -- test of all rows and columns.
 -- Assumes nothing.
 use mathlib.Core.Path.{_≡_, refl, ap₂, _∙_}
-use mathlib.Core.Bool.{Bool}
 use mathlib.Core.List.{[], _∷_}
 use Prim.Native.Nat.{ℕ, _<_}
-use lib.Dec.{T, eqb, eqb→eq, lit<}
+use lib.Dec.{eqb, eqb→eq, lit<}
 use lib.ListN.{getD}
-use Rattle.lists.proofs.Tests.{all, all-at}
+use Rattle.lists.proofs.Tests.{all-entries}
 use Rattle.lengths.specs.Labels.{Label, 'I, 'N, 'L, 'R, 'X}
 use Rattle.geodesics.specs.Table1.{table1}
 use Rattle.scans.specs.Table.{numberOf, labelEntry}
@@ -30,14 +29,10 @@ number-label 'L = refl
 number-label 'R = refl
 number-label 'X = refl
 
--- A test of a row and a column that passes at all of them.
-all-entries : (f : ℕ → ℕ → Bool) → T (all 5 (λ i. all 5 (f i))) → (i j : ℕ) → i < 5 → j < 5 → T (f i j)
-all-entries f h i j hi hj = all-at 5 (f i) (all-at 5 (λ i. all 5 (f i)) h i hi) j hj
-
 entry-table : (i j : ℕ) → i < 5 → j < 5 → labelEntry i j ≡ table1 (numbered i) (numbered j)
 entry-table i j hi hj =
     eqb→eq (labelEntry i j) (table1 (numbered i) (numbered j))
-    (all-entries (λ i j. eqb (labelEntry i j) (table1 (numbered i) (numbered j))) tt i j hi hj)
+    (all-entries 5 (λ i j. eqb (labelEntry i j) (table1 (numbered i) (numbered j))) tt i j hi hj)
 
 -- Each entry is that of Table 1.
 pub entry-label : (x y : Label) → labelEntry (numberOf x) (numberOf y) ≡ table1 x y
@@ -47,4 +42,4 @@ entry-label x y =
 -- The table is symmetric.
 pub entry-symmetric : (i j : ℕ) → i < 5 → j < 5 → labelEntry i j ≡ labelEntry j i
 entry-symmetric i j hi hj =
-    eqb→eq (labelEntry i j) (labelEntry j i) (all-entries (λ i j. eqb (labelEntry i j) (labelEntry j i)) tt i j hi hj)
+    eqb→eq (labelEntry i j) (labelEntry j i) (all-entries 5 (λ i j. eqb (labelEntry i j) (labelEntry j i)) tt i j hi hj)

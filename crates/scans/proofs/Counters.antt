@@ -2,14 +2,13 @@
 -- Assumes nothing.
 use mathlib.Core.Path.{_≡_, refl, _∙_, ap₂}
 use mathlib.Core.Bool.{Bool, true, false, cond}
-use Prim.Native.Nat.{ℕ, zero, suc, _+_, _-_, _*_, _≤_, _<_}
+use Prim.Native.Nat.{ℕ, zero, suc, _+_, _-_, _*_, _≤_, _<_, min}
 use native.Mathlib.Omega.{arith}
 use lib.Dec.{leb, eqb, leb·zero, leb·suc-suc, eqb·suc-zero}
-use borrow.Author.Tests.{lt-ltb, le-ltb}
 use Rattle.lengths.specs.inside.Steps.{classByte}
 use Rattle.geodesics.specs.Rows.{classBy, nextOpen, nextLeft}
 use Rattle.scans.specs.declared.sides.Side.{Side}
-use Rattle.scans.specs.inside.Steps.{bitOf, least, nextSide, runBy, RunsBy, leftsPast, passedSide}
+use Rattle.scans.specs.inside.Steps.{bitOf, nextSide, runBy, RunsBy, leftsPast, passedSide}
 
 -- A number above 0.
 pub above : (n : ℕ) → leb 1 (suc n) ≡ true
@@ -54,19 +53,12 @@ next-side t e i j ei ej =
     (ap₂ (λ (m n : ℕ). record { subtrees = m; lefts = n }) (open-next (t .subtrees) e)
     (left-next (t .subtrees) (t .lefts)))
 
--- The smaller of two numbers.
-pub least-first : (m n : ℕ) → m < n → m ≡ least m n
-least-first m n h = rw (lt-ltb m n h) refl
-
-pub least-second : (m n : ℕ) → n ≤ m → n ≡ least m n
-least-second m n h = rw (le-ltb m n h) refl
-
 -- A run of interior carets, of carets of the left side, or of the right side.
-pub run-inside : (s l most r : ℕ) → 0 < s → r ≡ least s most → r ≡ runBy s l most
+pub run-inside : (s l most r : ℕ) → 0 < s → r ≡ min s most → r ≡ runBy s l most
 run-inside zero l most r h e = absurd (omega arith)
 run-inside (suc s) l most r h e = e
 
-pub run-left : (s l most r : ℕ) → s ≡ 0 → 0 < l → r ≡ least l most → r ≡ runBy s l most
+pub run-left : (s l most r : ℕ) → s ≡ 0 → 0 < l → r ≡ min l most → r ≡ runBy s l most
 run-left (suc s) l most r z h e = absurd (omega arith)
 run-left zero zero most r z h e = absurd (omega arith)
 run-left zero (suc l) most r z h e = e

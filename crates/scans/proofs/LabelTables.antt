@@ -12,17 +12,12 @@ use Rattle.lengths.specs.Classes.{Class, onLeft, onRight, insideLeaf, insideCar
 use Rattle.lengths.specs.Kinds.{kindOf}
 use Rattle.lengths.specs.Labels.{labelOf}
 use Rattle.lengths.specs.inside.Steps.{classByte, classOf}
+use Rattle.lengths.proofs.ClassBytes.{class-read}
 use Rattle.geodesics.specs.Rows.{classBy}
 use Rattle.geodesics.specs.inside.Costs.{labelBy}
 use Rattle.scans.specs.Table.{numberOf}
 use Rattle.scans.specs.inside.Steps.{bitOf, LabelsOf, Labels}
 use Rattle.scans.proofs.Counters.{above}
-
-class-again : (c : Class) → classOf (classByte c) ≡ c
-class-again onLeft = refl
-class-again onRight = refl
-class-again insideLeaf = refl
-class-again insideCaret = refl
 
 class-lt : (c : Class) → classByte c < 4
 class-lt onLeft = omega arith
@@ -47,7 +42,7 @@ pub label-read : (t : List ℕ) (s l e c n : ℕ) → Labels t → c ≡ classBy
 label-read t s l e c n h ec en =
     ap₂ (λ (i j : ℕ). getD t (2 * i + j) 0) ec en
     ∙ h .at (classByte (classBy s l e)) (leb 1 e) (class-lt (classBy s l e))
-    ∙ ap (λ (x : Class). numberOf (labelOf (kindOf x (leb 1 e) (leb 1 e)))) (class-again (classBy s l e))
+    ∙ ap (λ (x : Class). numberOf (labelOf (kindOf x (leb 1 e) (leb 1 e)))) (class-read (classBy s l e))
     ∙ ap numberOf (label-class s l e)
 
 -- No class yet, and one more.

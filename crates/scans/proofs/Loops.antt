@@ -2,34 +2,14 @@
 --     Upto       the columns up to the leaf i are weighed
 --     PassedTo   of columns with no exponent behind them some are left
 -- Assumes nothing.
-use mathlib.Core.Path.{_≡_, refl, sym, _∙_, subst, subst₂}
-use mathlib.Core.Bool.{Bool, true, false, cond}
+use mathlib.Core.Path.{_≡_, sym, _∙_, subst, subst₂}
 use mathlib.Core.List.{List}
 use Prim.Native.Nat.{ℕ, zero, suc, _+_, _-_, _≤_, _<_}
 use native.Mathlib.Omega.{arith}
 use lib.ListN.{drop, getD}
 use lib.Seq.{drop-drop, getD-drop}
-use lib.Dec.{ltb}
-use borrow.Author.Tests.{ltb-true, ltb-false}
 use Rattle.scans.specs.declared.columns.State.{State}
-use Rattle.scans.specs.inside.Steps.{
-  least,
-  runBy,
-  runOf,
-  RunsBy,
-  Runs,
-  columnOf,
-  Ready,
-  stretchedBy,
-  Stretch,
-  AmidAt,
-  Zeros,
-  Passing,
-  Passed,
-  Reached,
-  Scanning,
-  Scanned,
-}
+use Rattle.scans.specs.inside.Steps.{runBy, runOf, RunsBy, Runs, columnOf, Ready, stretchedBy, Stretch, AmidAt, Zeros, Passing, Passed, Reached, Scanning, Scanned}
 use Rattle.scans.proofs.Stretches.{runs-fewer}
 use Rattle.scans.proofs.Reaching.{column-ready, column-reached, run-room, amid-run}
 
@@ -76,34 +56,20 @@ pub pass-start : (count : ℕ) (s : State) → PassedTo count s count s
 pass-start count s = record { gone = 0; parts = omega arith; amid = λ es fs m w ze zf h. h }
 
 -- A run is not longer than what is left, and at least one caret long.
-least-few : (m n : ℕ) → (least m n ≤ m) × (least m n ≤ n)
-least-few m n = go (ltb m n) refl
-  where
-    go : (q : Bool) → ltb m n ≡ q → (cond q m n ≤ m) × (cond q m n ≤ n)
-    go true e = (omega arith, omega (arith, ltb-true m n e))
-    go false e = (ltb-false m n e, omega arith)
-
-least-some : (m n : ℕ) → 1 ≤ m → 1 ≤ n → 1 ≤ least m n
-least-some m n hm hn = go (ltb m n)
-  where
-    go : (q : Bool) → 1 ≤ cond q m n
-    go true = hm
-    go false = hn
-
 run-few : (s l most : ℕ) → runBy s l most ≤ most
 run-few zero zero most = omega arith
-run-few zero (suc l) most = least-few (suc l) most .1
-run-few (suc s) l most = least-few (suc s) most .1
+run-few zero (suc l) most = omega arith
+run-few (suc s) l most = omega arith
 
 run-runs : (s l most : ℕ) → RunsBy (runBy s l most) s l
 run-runs zero zero most = tt
-run-runs zero (suc l) most = least-few (suc l) most .0
-run-runs (suc s) l most = least-few (suc s) most .0
+run-runs zero (suc l) most = omega arith
+run-runs (suc s) l most = omega arith
 
 run-some : (s l most : ℕ) → 1 ≤ most → 1 ≤ runBy s l most
 run-some zero zero most h = h
-run-some zero (suc l) most h = least-some (suc l) most (omega arith) h
-run-some (suc s) l most h = least-some (suc s) most (omega arith) h
+run-some zero (suc l) most h = omega arith
+run-some (suc s) l most h = omega arith
 
 -- One stretch more.
 module _ {count left : ℕ} {s r : State} (h : Passing count s) (p : PassedTo count s left r) (more : 0 < left) (c d : ℕ)

@@ -10,6 +10,7 @@ use lib.ListN.{drop, getD}
 use Rattle.lengths.specs.Labels.{Label}
 use Rattle.geodesics.specs.Rows.{first, rest, Row, row, nextOpen, nextLeft, nextRow}
 use Rattle.geodesics.specs.inside.Costs.{labelBy, rowLabel, column, cost, Closed}
+use Rattle.geodesics.proofs.SameRows.{rest-at}
 use Rattle.scans.specs.inside.Steps.{RunsBy, leftsPast, Zeros}
 use Rattle.scans.proofs.Tallies.{stack}
 
@@ -53,10 +54,6 @@ drop-rest n [] = none n
     none zero = refl
     none (suc n) = refl
 drop-rest n (e ∷ es) = refl
-
-rest-at : (es : List ℕ) (i : ℕ) → getD (rest es) i 0 ≡ getD es (suc i) 0
-rest-at [] i = refl
-rest-at (e ∷ es) i = refl
 
 rest-zeros : (n : ℕ) (es : List ℕ) → Zeros (suc n) es → Zeros n (rest es)
 rest-zeros n es z i p = rest-at es i ∙ z (suc i) (omega arith)

@@ -1,10 +1,10 @@
 // A tree at a caret: what is open over it and what is to come, by two counters.
 ghost use mathlib.Core.Path.{_≡_};
 ghost use mathlib.Core.Bool.{cond};
-ghost use Prim.Native.Nat.{_+_, _≤_};
+ghost use Prim.Native.Nat.{_+_, _≤_, min};
 ghost use Rattle.lengths.specs.inside.Steps.{classByte};
 ghost use Rattle.geodesics.specs.Rows.{classBy};
-ghost use Rattle.scans.specs.inside.Steps.{bitOf, nextSide, least, runOf, Runs, passedSide};
+ghost use Rattle.scans.specs.inside.Steps.{bitOf, nextSide, runOf, Runs, passedSide};
 use lengths::kinds::INSIDE_LEAF;
 
 // The interior subtrees that are open over a caret, and the carets of the left side to come at or behind it.
@@ -52,7 +52,7 @@ pub fn next(side: Side, exponent: u16) -> Side
 
 // The smaller of two numbers.
 fn smaller(m: usize, n: usize) -> usize
-    ensures { λ r. ⌜ r ≡ least m n ⌝ }
+    ensures { λ r. ⌜ r ≡ min m n ⌝ }
 {
     if m < n { m } else { n }
 }

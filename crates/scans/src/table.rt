@@ -14,7 +14,7 @@ const TABLE1: [[u8; 5]; 5] = [
 ];
 
 // The row and the column of R.
-const RIGHT: usize = 3;
+const LABEL_R: usize = 3;
 
 // The sum so far, without the columns R over R at its end, and the weight of these: it counts once another column is
 // behind them.
@@ -36,7 +36,7 @@ fn weight(x: usize, y: usize) -> u8
 fn both_right(x: usize, y: usize) -> bool
     ensures { λ r. ⌜ r ≡ bothRight x y ⌝ }
 {
-    (x == RIGHT) & (y == RIGHT)
+    (x == LABEL_R) & (y == LABEL_R)
 }
 
 // Columns that weigh so much: they wait, or count with what waits before them.

@@ -72,6 +72,11 @@ static void *record_to_tree_pair(void *p) {
     return p;
 }
 
+static void *record_to_label_length(void *p) {
+    answer = thompson_record_to_label_length(record1, length);
+    return p;
+}
+
 static void *record_to_length(void *p) {
     answer = thompson_record_to_length(record1, length);
     return p;
@@ -232,5 +237,6 @@ int main(void) {
     register_calls(none);
     tree_calls("record to tree pair", record_to_tree_pair, none);
     tree_calls("record to length", record_to_length, none);
+    tree_calls("the same by Table 1", record_to_label_length, none);
     return 0;
 }

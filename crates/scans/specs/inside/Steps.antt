@@ -5,11 +5,11 @@
 --     Reached b a n i w s    the scan of two tables, with n carets, has reached leaf i
 -- Inside: no claim reaches these definitions; a reader of the claims need not believe them. Assumes nothing.
 use mathlib.Core.Path.{_≡_}
-use mathlib.Core.Bool.{Bool, true, false, cond, _&&_}
+use mathlib.Core.Bool.{Bool, true, false, _&&_}
 use mathlib.Core.List.{List}
-use Prim.Native.Nat.{ℕ, zero, suc, _+_, _-_, _*_, _≤_, _<_}
+use Prim.Native.Nat.{ℕ, zero, suc, _+_, _-_, _*_, _≤_, _<_, min}
 use lib.ListN.{length, drop, getD}
-use lib.Dec.{ltb, eqb}
+use lib.Dec.{eqb}
 use Rattle.trees.specs.Pairs.{maxCarets, caretsOfSides}
 use Rattle.lengths.specs.Kinds.{kindOf}
 use Rattle.lengths.specs.Labels.{Label, labelOf}
@@ -22,13 +22,10 @@ use Rattle.scans.specs.declared.columns.State.{State}
 use Rattle.scans.specs.declared.scan.Place.{Place}
 use Rattle.scans.specs.Table.{numberOf, labelEntry}
 
--- 1 where a test holds, else 0; the smaller of two numbers.
+-- 1 where a test holds, else 0.
 abbrev pub bitOf : Bool → ℕ
 bitOf true = 1
 bitOf false = 0
-
-abbrev pub least : ℕ → ℕ → ℕ
-least m n = cond (ltb m n) m n
 
 -- A tree at the next caret, by the exponent of the leaf behind this one.
 abbrev pub nextSide : Side → ℕ → Side
@@ -37,8 +34,8 @@ nextSide s e = record { subtrees = nextOpen (s .subtrees) e; lefts = nextLeft (s
 -- How many carets with no exponent behind them have one label, by the counters and at most so many.
 abbrev pub runBy : (subtrees lefts most : ℕ) → ℕ
 runBy zero zero most = most
-runBy zero (suc l) most = least (suc l) most
-runBy (suc s) l most = least (suc s) most
+runBy zero (suc l) most = min (suc l) most
+runBy (suc s) l most = min (suc s) most
 
 abbrev pub runOf : Side → ℕ → ℕ
 runOf s most = runBy (s .subtrees) (s .lefts) most
