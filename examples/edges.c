@@ -13,6 +13,8 @@ static uint16_t b_table[THOMPSON_TABLE(THOMPSON_LIMIT)], a_table[THOMPSON_TABLE(
 static uint16_t b_table2[1], a_table2[1];
 static uint8_t t_minus[THOMPSON_SHAPE(THOMPSON_CARETS)], t_plus[THOMPSON_SHAPE(THOMPSON_CARETS)];
 static uint8_t filed[THOMPSON_REGISTER_MOST + 1], records[THOMPSON_LIST(2, 2 * THOMPSON_LIMIT + 1)];
+static uint64_t numbers[THOMPSON_NUMBERS(THOMPSON_CARETS)];
+static uint16_t summary[THOMPSON_NUMBERS(THOMPSON_CARETS)];
 static int wrong;
 
 static void row(const char *what, thompson_answer answer, uint64_t refusal, uint64_t value) {
@@ -215,11 +217,88 @@ static void register_sizes(void) {
     filing_row("a filing of THOMPSON_LIMIT letters", file(THOMPSON_LIMIT, 1, THOMPSON_REGISTER_MOST), 0, 6, 0);
 }
 
+/* A left spine of so many carets as a shape, T-, and packed with so many numbers and entries lent. */
+static thompson_answer spine(size_t carets, size_t numbers_size, size_t entries) {
+    memset(t_minus, 0, sizeof t_minus);
+    memset(t_minus, 1, carets);
+    return thompson_pack_shape(t_minus, THOMPSON_SHAPE(carets), numbers, numbers_size, summary, entries);
+}
+
+/* The two questions about the spine of so many carets, and a caret grown on it, with all its elements lent. */
+static thompson_answer before(size_t carets, uint64_t node) {
+    return thompson_carets_before(numbers, THOMPSON_NUMBERS(carets), summary, THOMPSON_NUMBERS(carets), node);
+}
+
+static thompson_answer end(size_t carets, uint64_t node) {
+    return thompson_subtree_end(numbers, THOMPSON_NUMBERS(carets), summary, THOMPSON_NUMBERS(carets), node);
+}
+
+static thompson_answer grown(size_t numbers_size, size_t entries, uint64_t leaf) {
+    return thompson_grow_caret(numbers, numbers_size, summary, entries, leaf);
+}
+
+/* Packed shapes with nothing lent, and with exact room and one short: 31 carets take one number, 32 take two. */
+static void packed_sizes(void) {
+    const size_t one = THOMPSON_NUMBERS(31), two = THOMPSON_NUMBERS(32);
+    printf("packed shapes: refusal, value\n");
+    row("pack, nothing lent", thompson_pack_shape(0, 0, 0, 0, 0, 0), 15, 0);
+    row("unpack, nothing lent", thompson_unpack_shape(0, 0, 0, 0, 0, 0), 15, 0);
+    row("carets before, nothing lent", thompson_carets_before(0, 0, 0, 0, 0), 15, 0);
+    row("subtree end, nothing lent", thompson_subtree_end(0, 0, 0, 0, 0), 15, 0);
+    row("grow, nothing lent", thompson_grow_caret(0, 0, 0, 0, 0), 15, 0);
+    row("pack a leaf, no numbers", thompson_pack_shape((const uint8_t *)"", 1, 0, 0, 0, 0), 7, 0);
+    row("pack 32 carets, a number short", spine(32, two - 1, two), 7, 0);
+    row("an entry short", spine(32, two, two - 1), 7, 0);
+    row("pack 31 carets, exact room", spine(31, one, one), 0, one);
+    row("unpack, a byte short", thompson_unpack_shape(numbers, one, summary, one, t_plus, THOMPSON_SHAPE(31) - 1), 7,
+        0);
+    row("unpack, exact room", thompson_unpack_shape(numbers, one, summary, one, t_plus, THOMPSON_SHAPE(31)), 0,
+        THOMPSON_SHAPE(31));
+    row("grow, a number short", grown(one, two, 31), 7, 0);
+    row("grow, an entry short", grown(two, one, 31), 7, 0);
+    row("grow, exact room", grown(two, two, 31), 0, two);
+    row("carets before the last node", before(32, THOMPSON_SHAPE(32) - 1), 0, 32);
+    row("a summary one entry short", thompson_carets_before(numbers, two, summary, two - 1, 0), 15, 0);
+}
+
+/* Nodes and leaves up to the highest number, and the most carets. */
+static void packed_limits(void) {
+    const size_t n = THOMPSON_NUMBERS(THOMPSON_CARETS), last = THOMPSON_SHAPE(THOMPSON_CARETS) - 1;
+    printf("packed shapes at the limits: refusal, value\n");
+    row("THOMPSON_CARETS - 1 carets", spine(THOMPSON_CARETS - 1, n, n), 0, n);
+    row("a leaf too high", grown(n, n, THOMPSON_CARETS), 15, 0);
+    row("leaf 65536", grown(n, n, 65536), 15, 0);
+    row("leaf UINT64_MAX", grown(n, n, UINT64_MAX), 15, 0);
+    row("the last leaf", grown(n, n, THOMPSON_CARETS - 1), 0, n);
+    row("leaf 0 of THOMPSON_CARETS carets", grown(n, n, 0), 15, 0);
+    row("carets before the last node", before(THOMPSON_CARETS, last), 0, THOMPSON_CARETS);
+    row("the node behind it", before(THOMPSON_CARETS, last + 1), 15, 0);
+    row("node UINT64_MAX", before(THOMPSON_CARETS, UINT64_MAX), 15, 0);
+    row("end of node 0", end(THOMPSON_CARETS, 0), 0, last + 1);
+    row("end of the last node", end(THOMPSON_CARETS, last), 0, last + 1);
+    row("end of the node behind it", end(THOMPSON_CARETS, last + 1), 15, 0);
+    row("end of node UINT64_MAX", end(THOMPSON_CARETS, UINT64_MAX), 15, 0);
+    row("unpack THOMPSON_CARETS carets", thompson_unpack_shape(numbers, n, summary, n, t_plus, sizeof t_plus), 0,
+        sizeof t_plus);
+    row("THOMPSON_CARETS carets", spine(THOMPSON_CARETS, n, n), 0, n);
+    row("their numbers one short", spine(THOMPSON_CARETS, n - 1, n), 7, 0);
+}
+
+/* The shape of one caret too many, with nothing lent. */
+static void packed_above(void) {
+    static uint8_t shape[THOMPSON_SHAPE(THOMPSON_CARETS + 1)];
+    memset(shape, 1, THOMPSON_CARETS + 1);
+    row("one caret more, nothing lent", thompson_pack_shape(shape, sizeof shape, 0, 0, 0, 0), 15, 0);
+}
+
 int main(void) {
     null_pointers();
     sizes();
     text_sizes();
     list_sizes();
     register_sizes();
+    packed_sizes();
+    packed_limits();
+    packed_above();
     return wrong;
 }

@@ -1,6 +1,7 @@
-/* A program in C over libthompson.a: for each word on the command line its record, its tree pair, its length and the
-   same by Table 1, a word that the record spells, its text in subscript notation, and its entry in a register of the
-   words before it, each word with a holder of its own; then the records of all words in one call.
+/* A program in C over libthompson.a: for each word on the command line its record, its tree pair, the tree T+ packed
+   with its carets, its end and a caret grown at its first leaf, its length and the same by Table 1, a word that the
+   record spells, its text in subscript notation, and its entry in a register of the words before it, each word with a
+   holder of its own; then the records of all words in one call.
        words abA ba */
 #include "thompson.h"
 
@@ -12,6 +13,8 @@
 static uint16_t b_table[THOMPSON_TABLE(THOMPSON_LIMIT)], a_table[THOMPSON_TABLE(THOMPSON_LIMIT)];
 static uint8_t record[THOMPSON_RECORD(THOMPSON_LIMIT)], letters[THOMPSON_LIMIT], text[THOMPSON_TEXT(THOMPSON_LIMIT)];
 static uint8_t t_minus[THOMPSON_SHAPE(THOMPSON_CARETS)], t_plus[THOMPSON_SHAPE(THOMPSON_CARETS)];
+static uint64_t numbers[THOMPSON_NUMBERS(THOMPSON_CARETS)];
+static uint16_t summary[THOMPSON_NUMBERS(THOMPSON_CARETS)];
 
 /* A fresh register: the first field, and a byte 00 behind it. */
 static uint8_t filed[THOMPSON_REGISTER_MOST] = {0x10, 0, 4};
@@ -35,6 +38,25 @@ static void print_shape(const char *what, const uint8_t *shape, size_t carets) {
     printf("\n");
 }
 
+/* A shape packed, the carets before its last node, where its first node's subtree ends, and the shape with a caret
+   grown at its first leaf. */
+static void print_packed(const uint8_t *shape, size_t carets) {
+    const size_t n = THOMPSON_NUMBERS(THOMPSON_CARETS), last = THOMPSON_SHAPE(carets) - 1;
+    thompson_answer packed = thompson_pack_shape(shape, THOMPSON_SHAPE(carets), numbers, n, summary, n);
+    if (!accepted("packed", packed)) return;
+    printf("  packed");
+    for (size_t i = 0; i < packed.value; i++) printf(" %016" PRIx64 ":%d", numbers[i], summary[i]);
+    printf("\n");
+    thompson_answer before = thompson_carets_before(numbers, n, summary, n, last);
+    if (accepted("carets before", before)) printf("  before the last node %" PRIu64 "\n", before.value);
+    thompson_answer end = thompson_subtree_end(numbers, n, summary, n, 0);
+    if (accepted("subtree end", end)) printf("  end of node 0 at %" PRIu64 "\n", end.value);
+    thompson_answer grown = thompson_grow_caret(numbers, n, summary, n, 0);
+    if (!accepted("grown", grown)) return;
+    thompson_answer unpacked = thompson_unpack_shape(numbers, n, summary, n, t_minus, sizeof t_minus);
+    if (accepted("unpacked", unpacked)) print_shape("grown", t_minus, unpacked.value / 2);
+}
+
 static void print_word(const char *word, uint16_t holder) {
     printf("word %s\n", word);
     thompson_answer written =
@@ -48,6 +70,7 @@ static void print_word(const char *word, uint16_t holder) {
         printf("  carets %" PRIu64 "\n", pair.value);
         print_shape("T-", t_minus, pair.value);
         print_shape("T+", t_plus, pair.value);
+        print_packed(t_plus, pair.value);
     }
     thompson_answer length = thompson_record_to_length(record, written.value);
     if (accepted("length", length)) printf("  length %" PRIu64 "\n", length.value);

@@ -1,8 +1,8 @@
-// A program in Rust over libthompson.a: for each word on the command line its record, its tree pair, its length and the
-// same by Table 1, a word that the record spells, its text in subscript notation, and its entry in a register of the
-// words before it, each word with a holder of its own; then the records of all words in one call. The module `thompson`
-// is a safe face of the calls: a Rust slice is a valid pointer with its length, and a `&mut` slice overlaps nothing
-// else, which is all that the calls ask.
+// A program in Rust over libthompson.a: for each word on the command line its record, its tree pair, the tree T+ packed
+// with its carets, its end and a caret grown at its first leaf, its length and the same by Table 1, a word that the
+// record spells, its text in subscript notation, and its entry in a register of the words before it, each word with a
+// holder of its own; then the records of all words in one call. The module `thompson` is a safe face of the calls: a
+// Rust slice is a valid pointer with its length, and a `&mut` slice overlaps nothing else, which is all that they ask.
 //     words abA ba
 
 mod thompson {
@@ -38,6 +38,12 @@ mod thompson {
         pub carets: usize,
         pub minus: Vec<u8>,
         pub plus: Vec<u8>,
+    }
+
+    // A shape packed 64 nodes to a number, and for each number the carets in those before it.
+    pub struct Packed {
+        pub numbers: Vec<u64>,
+        pub summary: Vec<u16>,
     }
 
     extern "C" {
@@ -86,6 +92,43 @@ mod thompson {
             register: *mut u8,
             register_size: usize,
         ) -> Filing;
+        fn thompson_pack_shape(
+            shape: *const u8,
+            shape_size: usize,
+            numbers: *mut u64,
+            numbers_size: usize,
+            summary: *mut u16,
+            summary_entries: usize,
+        ) -> Answer;
+        fn thompson_unpack_shape(
+            numbers: *const u64,
+            numbers_size: usize,
+            summary: *const u16,
+            summary_entries: usize,
+            shape: *mut u8,
+            shape_size: usize,
+        ) -> Answer;
+        fn thompson_carets_before(
+            numbers: *const u64,
+            numbers_size: usize,
+            summary: *const u16,
+            summary_entries: usize,
+            node: u64,
+        ) -> Answer;
+        fn thompson_subtree_end(
+            numbers: *const u64,
+            numbers_size: usize,
+            summary: *const u16,
+            summary_entries: usize,
+            node: u64,
+        ) -> Answer;
+        fn thompson_grow_caret(
+            numbers: *mut u64,
+            numbers_size: usize,
+            summary: *mut u16,
+            summary_entries: usize,
+            leaf: u64,
+        ) -> Answer;
     }
 
     fn value(answer: Answer) -> Result<usize, Refused> {
@@ -198,6 +241,66 @@ mod thompson {
         Ok(TreePair { carets, minus, plus })
     }
 
+    // A shape packed.
+    pub fn pack(shape: &[u8]) -> Result<Packed, Refused> {
+        let n = shape.len().div_ceil(64);
+        let (mut numbers, mut summary) = (vec![0u64; n], vec![0u16; n]);
+        let answer = unsafe {
+            thompson_pack_shape(shape.as_ptr(), shape.len(), numbers.as_mut_ptr(), n, summary.as_mut_ptr(), n)
+        };
+        value(answer)?;
+        Ok(Packed { numbers, summary })
+    }
+
+    impl Packed {
+        // The carets before a node.
+        pub fn carets_before(&self, node: u64) -> Result<usize, Refused> {
+            let (numbers, summary) = (&self.numbers, &self.summary);
+            value(unsafe {
+                thompson_carets_before(numbers.as_ptr(), numbers.len(), summary.as_ptr(), summary.len(), node)
+            })
+        }
+
+        // The node behind the subtree of a node.
+        pub fn subtree_end(&self, node: u64) -> Result<usize, Refused> {
+            let (numbers, summary) = (&self.numbers, &self.summary);
+            value(unsafe {
+                thompson_subtree_end(numbers.as_ptr(), numbers.len(), summary.as_ptr(), summary.len(), node)
+            })
+        }
+
+        // A caret in place of a leaf, for which a number more may be needed.
+        pub fn grow(&mut self, leaf: u64) -> Result<(), Refused> {
+            let n = self.numbers.len() + 1;
+            self.numbers.resize(n, 0);
+            self.summary.resize(n, 0);
+            let answer =
+                unsafe { thompson_grow_caret(self.numbers.as_mut_ptr(), n, self.summary.as_mut_ptr(), n, leaf) };
+            let used = value(answer)?;
+            self.numbers.truncate(used);
+            self.summary.truncate(used);
+            Ok(())
+        }
+
+        // The shape, a byte for each node.
+        pub fn unpack(&self) -> Result<Vec<u8>, Refused> {
+            let (numbers, summary) = (&self.numbers, &self.summary);
+            let mut shape = vec![0u8; 64 * numbers.len()];
+            let answer = unsafe {
+                thompson_unpack_shape(
+                    numbers.as_ptr(),
+                    numbers.len(),
+                    summary.as_ptr(),
+                    summary.len(),
+                    shape.as_mut_ptr(),
+                    shape.len(),
+                )
+            };
+            shape.truncate(value(answer)?);
+            Ok(shape)
+        }
+    }
+
     // A fresh register of n bytes, at least 7.
     pub fn fresh_register(n: usize) -> Vec<u8> {
         let mut register = vec![0u8; n];
@@ -266,6 +369,20 @@ fn print_hexadecimal(record: &[u8]) {
     println!("  record {hexadecimal}");
 }
 
+// A shape packed, the carets before its last node, where its first node's subtree ends, and the shape with a caret
+// grown at its first leaf.
+fn print_packed(shape: &[u8]) -> Result<(), Refused> {
+    let mut packed = thompson::pack(shape)?;
+    let entries: Vec<String> =
+        packed.numbers.iter().zip(&packed.summary).map(|(number, carets)| format!("{number:016x}:{carets}")).collect();
+    println!("  packed {}", entries.join(" "));
+    println!("  before the last node {}", packed.carets_before(shape.len() as u64 - 1)?);
+    println!("  end of node 0 at {}", packed.subtree_end(0)?);
+    packed.grow(0)?;
+    println!("  grown {}", digits(&packed.unpack()?));
+    Ok(())
+}
+
 fn print_word(word: &[u8], holder: u16, register: &mut [u8]) {
     print_bytes("word", word);
     let record = match thompson::record(word) {
@@ -274,7 +391,12 @@ fn print_word(word: &[u8], holder: u16, register: &mut [u8]) {
     };
     print_hexadecimal(&record);
     match thompson::tree_pair(&record) {
-        Ok(pair) => println!("  carets {}\n  T- {}\n  T+ {}", pair.carets, digits(&pair.minus), digits(&pair.plus)),
+        Ok(pair) => {
+            println!("  carets {}\n  T- {}\n  T+ {}", pair.carets, digits(&pair.minus), digits(&pair.plus));
+            if let Err(refused) = print_packed(&pair.plus) {
+                print_refused("packed", refused);
+            }
+        }
         Err(refused) => print_refused("tree pair", refused),
     }
     match thompson::length(&record) {

@@ -11,7 +11,7 @@
 
    1. Each pointer is valid for its length: it points to that many elements, for reading (const) or for reading and
       writing (the others), aligned as the element's type asks, until the call returns. The lengths are counted in
-      elements: bytes, or 16-bit numbers for tables.
+      elements: bytes, 16-bit numbers for tables and summaries, or 64-bit numbers for packed shapes.
    2. What is lent for writing overlaps nothing else that is lent to the same call. What is lent for reading only may
       be the same memory twice.
    3. Nothing else, such as another thread, changes what is lent while the call runs.
@@ -31,6 +31,12 @@
    is refused, a field of six bytes: tag 0F, length 00 03, the refusal's number (1 or 2) and its place in two bytes,
    high byte first. A field is a one-byte tag, a two-byte length, and that many bytes; a record's first tag is 01, its
    second 02.
+
+   A shape has a byte for each node of a tree, 1 for a caret and 0 for a leaf, a node before its left subtree before its
+   right one. A packed shape has the same nodes 64 to a number: node i is bit i mod 64, from the lowest on, of number
+   i / 64, and the unused bits of the last number are zero. Its summary has an entry for each number: the carets in all
+   numbers before it. Numbers behind the last node's, and their entries, mean nothing. Nodes and leaves are counted from
+   0, in the order in which the shape is written.
 
    A register is one buffer of at most THOMPSON_REGISTER_MOST bytes, in which each element has one entry, numbered in
    the order of first filing. It begins with the last entry number given: a fresh one has the bytes 10 00 04 00 00 00 00
@@ -70,6 +76,9 @@ extern "C" {
 #define THOMPSON_CARETS (2 * THOMPSON_LIMIT + 1)
 #define THOMPSON_SHAPE(n) (2 * (size_t)(n) + 1)
 
+/* The numbers of a packed shape with so many carets, and the entries of its summary. */
+#define THOMPSON_NUMBERS(carets) ((THOMPSON_SHAPE(carets) + 63) / 64)
+
 /* The most bytes of a register, the bytes of one without entries, and those of an entry with a record of r bytes. */
 #define THOMPSON_REGISTER_MOST 65536
 #define THOMPSON_REGISTER_FIRST 7
@@ -94,7 +103,9 @@ enum {
     THOMPSON_HIGH_INDEX = 11,      /* the reduced form has an index above the limit; place 0 */
     THOMPSON_BAD_REGISTER = 12,    /* no well-formed register, or too long a one; place 0 */
     THOMPSON_HOLDER_FULL = 13,     /* the holder has four entries; place 0 */
-    THOMPSON_REGISTER_FULL = 14    /* the entry does not fit, or its number would pass 4,294,967,295; place 0 */
+    THOMPSON_REGISTER_FULL = 14,   /* the entry does not fit, or its number would pass 4,294,967,295; place 0 */
+    THOMPSON_NOT_TREE = 15         /* a shape that is no tree or has or would have more than THOMPSON_CARETS carets, a
+                                      wrong or too short summary, or no such node or leaf; place 0 */
 };
 
 /* A refusal's number and place, or 0 and the call's value. */
@@ -161,8 +172,7 @@ thompson_answer thompson_record_to_text(const uint8_t *record, size_t record_siz
 /* Record to tree pair.
    Lent: the record; two buffers of at least 2 N + 1 bytes, THOMPSON_SHAPE(THOMPSON_CARETS) at most.
    Value: N, the carets of each tree. The shape of T- stands at the front of the first buffer, that of T+ at the front
-   of the second: a byte for each node, 1 for a caret and 0 for a leaf, a node before its left subtree before its right
-   one; bytes beyond are unchanged.
+   of the second; bytes beyond are unchanged.
    Refusals, in this order: 3, 4, 5, 7. */
 thompson_answer thompson_record_to_tree_pair(const uint8_t *record, size_t record_size, uint8_t *t_minus,
                                              size_t t_minus_size, uint8_t *t_plus, size_t t_plus_size);
@@ -210,6 +220,48 @@ thompson_answer thompson_check_register(const uint8_t *register_bytes, size_t re
    Value: how many entries the holder has.
    Refusal: 12. */
 thompson_answer thompson_live_entries(const uint8_t *register_bytes, size_t register_size, uint16_t holder);
+
+/* Shape to packed shape.
+   Lent: the shape, all its bytes; at least THOMPSON_NUMBERS(N) numbers and as many entries of a summary, where the
+   shape has N carets.
+   Value: how many numbers the shape takes, which stand at the front, with as many entries of the summary. Everything
+   beyond is unchanged.
+   Refusals, in this order: 15 (a byte that is neither 1 nor 0, bytes that end before the tree does or go on behind it,
+   too many carets), 7. */
+thompson_answer thompson_pack_shape(const uint8_t *shape, size_t shape_size, uint64_t *numbers, size_t numbers_size,
+                                    uint16_t *summary, size_t summary_entries);
+
+/* Packed shape to shape. Each of the calls from here on checks all of the packed shape that it is handed.
+   Lent: the packed shape, its numbers and its summary, and maybe more behind; a buffer of at least 2 N + 1 bytes,
+   THOMPSON_SHAPE(THOMPSON_CARETS) at most.
+   Value: 2 N + 1, the bytes of the shape, which stand at the front of the buffer; bytes beyond are unchanged.
+   Refusals, in this order: 15 (numbers that end before the tree does, an unused bit that is not zero, a summary that is
+   wrong or too short, too many carets), 7. */
+thompson_answer thompson_unpack_shape(const uint64_t *numbers, size_t numbers_size, const uint16_t *summary,
+                                      size_t summary_entries, uint8_t *shape, size_t shape_size);
+
+/* How many carets stand before a node, in the order of the shape. Nothing is written.
+   Lent: the packed shape. `node` is any number.
+   Value: the carets among the nodes 0 to node - 1.
+   Refusal: 15, as above, and where `node` is above 2 N. */
+thompson_answer thompson_carets_before(const uint64_t *numbers, size_t numbers_size, const uint16_t *summary,
+                                       size_t summary_entries, uint64_t node);
+
+/* Where the subtree of a node ends. Nothing is written.
+   Lent: the packed shape. `node` is any number.
+   Value: the node just behind the last one of the subtree, at most 2 N + 1.
+   Refusal: 15, as above, and where `node` is above 2 N. */
+thompson_answer thompson_subtree_end(const uint64_t *numbers, size_t numbers_size, const uint16_t *summary,
+                                     size_t summary_entries, uint64_t node);
+
+/* A caret with two leaves in place of a leaf.
+   Lent: the packed shape, with at least THOMPSON_NUMBERS(N + 1) numbers and as many entries of the summary. `leaf` is
+   any number.
+   Value: how many numbers the grown shape takes. They, and as many entries of the summary, are then what
+   thompson_pack_shape would write of the grown shape. Everything beyond is unchanged.
+   Refusals, in this order: 15, as above, and where `leaf` is above N or N is THOMPSON_CARETS; 7. */
+thompson_answer thompson_grow_caret(uint64_t *numbers, size_t numbers_size, uint16_t *summary, size_t summary_entries,
+                                    uint64_t leaf);
 
 #ifdef __cplusplus
 }

@@ -3,6 +3,7 @@ use Rattle.calls.specs.Claims.{Claims}
 use Rattle.calls.proofs.Demanded as Demanded
 use Rattle.calls.proofs.DemandedOfLists as DemandedOfLists
 use Rattle.calls.proofs.DemandedOfRegisters as DemandedOfRegisters
+use Rattle.calls.proofs.DemandedOfShapes as DemandedOfShapes
 use Rattle.calls.proofs.Calls as Calls
 use Rattle.claims.proofs.Demands as Demands
 use Rattle.claims.proofs.Exports as Exports
@@ -16,8 +17,11 @@ use Rattle.claims.proofs.Texts as Texts
 use Rattle.claims.proofs.Lists as Lists
 use Rattle.claims.proofs.Registers as Registers
 use Rattle.claims.proofs.EnterCalls as EnterCalls
+use Rattle.claims.proofs.PackedGiven as PackedGiven
+use Rattle.claims.proofs.Packed as Packed
 use Rattle.claims.proofs.Receipts as Receipts
 use Rattle.worked.proofs.Worked as Worked
+use Rattle.worked.proofs.Shapes as Shapes
 
 pub claims : Claims
 claims = record {
@@ -26,6 +30,7 @@ claims = record {
   one-record = Demanded.one-record;
   demanded-of-lists = DemandedOfLists.demanded-of-lists;
   demanded-of-registers = DemandedOfRegisters.demanded-of-registers;
+  demanded-of-shapes = DemandedOfShapes.demanded-of-shapes;
   calls = Calls.calls;
   exports = Calls.exports;
   demand1 = Demands.demand1;
@@ -94,6 +99,11 @@ claims = record {
   history = Registers.history;
   same-entry = Registers.same-entry;
   charges = Registers.charges;
+  shapes-given = PackedGiven.shapes-given;
+  pack-unpack = Packed.pack-unpack;
+  packed-is-tree = Packed.packed-is-tree;
+  grown-is-packed = Packed.grown-is-packed;
+  both-by-shape = Packed.both-by-shape;
   lines-of-bytes = Receipts.lines-of-bytes;
   lines-in-parts = Receipts.lines-in-parts;
   serves-met-lines = Receipts.serves-met-lines;
@@ -102,4 +112,5 @@ claims = record {
   worked = Worked.worked;
   worked-forms = Worked.worked-forms;
   worked-registers = Worked.worked-registers;
+  worked-shapes = Shapes.worked-shapes;
 }

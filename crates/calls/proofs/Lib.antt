@@ -4,4 +4,5 @@ pub mod Calls
 pub mod Demanded
 pub mod DemandedOfLists
 pub mod DemandedOfRegisters
+pub mod DemandedOfShapes
 pub mod Claims

@@ -2,17 +2,19 @@
 -- with its relation. A field names the function's own code, `routine`, and the relation, so that with another contract,
 -- or with a demand on its caller, the function has no proof here. `now x` is what stands behind the reference x: of a
 -- slice its elements. proofs/Calls.antt has the proofs, which are the functions' theorems.
---     Calls     the calls of document 01, of 02, [1], [3], [4] and [5], and of the receipt program
+--     Calls     the calls of document 01, of 02, [1] and [3] to [6], and of the receipt program
 --     Exports   the calls for C and Rust
 -- Assumes nothing.
 use mathlib.Core.Path.{_≡_}
 use denote.Ref.{now}
 use Rattle.refusals.specs.Outcomes.{verdictOf, replyOf}
 use Rattle.refusals.specs.Memory.{memory}
+use Rattle.refusals.specs.Placing.{Placed}
 use Rattle.records.specs.Checking.{Checked}
 use Rattle.words.specs.Recording.{Recorded}
 use Rattle.comparisons.specs.Comparing.{Compared, decisionOf}
 use Rattle.wordlists.specs.Listing.{Listed}
+use Rattle.trees.specs.Shapes.{subtreeEnd}
 use Rattle.lengths.specs.Weights.{formLength}
 use Rattle.pairs.specs.Contracts.{Paired, labelSum, Measured}
 use Rattle.spelling.specs.Contracts.{Spelled}
@@ -21,6 +23,9 @@ use Rattle.registers.specs.Finding.{found}
 use Rattle.registers.specs.Answers.{RegisterChecked, Summarised, searchOf, headingAt}
 use Rattle.updates.specs.Accounts.{AccountRead}
 use Rattle.updates.specs.Entering.{enteredOf, EnteredWord}
+use Rattle.packed.specs.Packing.{caretsBefore}
+use Rattle.packed.specs.Answers.{nodeEndOf}
+use Rattle.packed.specs.Contracts.{packing, unpacking, growing, Repacked, AnswersNode}
 use Rattle.receipts.specs.Contracts.{Begun, ServedPart, Finished}
 use Rattle.thompson.specs.Codes.{codeOf, codeOfDecision, codeOfEntered, liveOf, Passed}
 use Rattle.calls.specs.Always.{Always}
@@ -40,6 +45,11 @@ use Rattle.registers.proofs.find as find
 use Rattle.registers.proofs.entry_at as entry-at
 use Rattle.updates.proofs.enter_word as enter-word
 use Rattle.updates.proofs.account_of as account-of
+use Rattle.packed.proofs.pack_shape as pack-shape
+use Rattle.packed.proofs.unpack_shape as unpack-shape
+use Rattle.packed.proofs.carets_before as carets-before
+use Rattle.packed.proofs.subtree_end as subtree-end
+use Rattle.packed.proofs.grow_caret as grow-caret
 use Rattle.receipts.proofs.begin as begin
 use Rattle.receipts.proofs.serve as serve
 use Rattle.receipts.proofs.finish as finish
@@ -56,6 +66,11 @@ use Rattle.thompson.proofs.thompson_record_to_text as thompson-record-to-text
 use Rattle.thompson.proofs.thompson_enter_word as thompson-enter-word
 use Rattle.thompson.proofs.thompson_check_register as thompson-check-register
 use Rattle.thompson.proofs.thompson_live_entries as thompson-live-entries
+use Rattle.thompson.proofs.thompson_pack_shape as thompson-pack-shape
+use Rattle.thompson.proofs.thompson_unpack_shape as thompson-unpack-shape
+use Rattle.thompson.proofs.thompson_carets_before as thompson-carets-before
+use Rattle.thompson.proofs.thompson_subtree_end as thompson-subtree-end
+use Rattle.thompson.proofs.thompson_grow_caret as thompson-grow-caret
 
 -- The calls of the papers and of the receipt program.
 pub record Calls : Type 2 where
@@ -93,6 +108,16 @@ pub record Calls : Type 2 where
       (memory (now b′) (now a′) (now e′)) h (now s) (now s′) r)
   pub account-of : Always account-of.ended account-of.Symbol.routine
       (λ κs s s′ h h′ r. AccountRead (now s) h r)
+  pub pack-shape : Always pack-shape.ended pack-shape.Symbol.routine
+      (λ κs s s′ x x′ y y′ r. Repacked (packing (now s) (now x) (now y)) (now x) (now y) (now x′) (now y′) r)
+  pub unpack-shape : Always unpack-shape.ended unpack-shape.Symbol.routine
+      (λ κs x x′ y y′ s s′ r. Placed (unpacking (now x) (now y) (now s)) (now s) (now s′) r)
+  pub carets-before : Always carets-before.ended carets-before.Symbol.routine
+      (λ κs x x′ y y′ k k′ r. AnswersNode (λ s. caretsBefore s (k .0)) (now x) (now y) (k .0) (replyOf r))
+  pub subtree-end : Always subtree-end.ended subtree-end.Symbol.routine
+      (λ κs x x′ y y′ k k′ r. AnswersNode (λ s. subtreeEnd s (k .0)) (now x) (now y) (k .0) (nodeEndOf r))
+  pub grow-caret : Always grow-caret.ended grow-caret.Symbol.routine
+      (λ κs x x′ y y′ k k′ r. Repacked (growing (now x) (now y) (k .0)) (now x) (now y) (now x′) (now y′) r)
   pub begin : Always begin.ended begin.Symbol.routine (λ κs out out′ r. Begun (now out) (now out′) r)
   pub serve : Always serve.ended serve.Symbol.routine
       (λ κs part part′ k k′ held held′ line line′ out out′ r. ServedPart (now part) k held (now line) (now out)
@@ -135,3 +160,18 @@ pub record Exports : Type 2 where
       (λ κs s s′ r. Passed (λ x. codeOf (verdictOf x)) (RegisterChecked (now s)) r)
   pub live-entries : Always thompson-live-entries.ended thompson-live-entries.Symbol.routine
       (λ κs s s′ h h′ r. Passed (λ x. codeOf (liveOf x)) (AccountRead (now s) h) r)
+  pub pack-shape : Always thompson-pack-shape.ended thompson-pack-shape.Symbol.routine
+      (λ κs s s′ x x′ y y′ r. Passed (λ a. codeOf (replyOf a))
+      (Repacked (packing (now s) (now x) (now y)) (now x) (now y) (now x′) (now y′)) r)
+  pub unpack-shape : Always thompson-unpack-shape.ended thompson-unpack-shape.Symbol.routine
+      (λ κs x x′ y y′ s s′ r. Passed (λ a. codeOf (replyOf a))
+      (Placed (unpacking (now x) (now y) (now s)) (now s) (now s′)) r)
+  pub carets-before : Always thompson-carets-before.ended thompson-carets-before.Symbol.routine
+      (λ κs x x′ y y′ k k′ r. Passed (λ a. codeOf (replyOf a))
+      (λ a. AnswersNode (λ s. caretsBefore s k) (now x) (now y) k (replyOf a)) r)
+  pub subtree-end : Always thompson-subtree-end.ended thompson-subtree-end.Symbol.routine
+      (λ κs x x′ y y′ k k′ r. Passed (λ a. codeOf (nodeEndOf a))
+      (λ a. AnswersNode (λ s. subtreeEnd s k) (now x) (now y) k (nodeEndOf a)) r)
+  pub grow-caret : Always thompson-grow-caret.ended thompson-grow-caret.Symbol.routine
+      (λ κs x x′ y y′ k k′ r. Passed (λ a. codeOf (replyOf a))
+      (Repacked (growing (now x) (now y) k) (now x) (now y) (now x′) (now y′)) r)

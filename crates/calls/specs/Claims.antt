@@ -4,6 +4,7 @@
 use Rattle.calls.specs.Demanded.{Demanded, DemandedOfExports, OneRecord}
 use Rattle.calls.specs.DemandedOfLists.{DemandedOfLists}
 use Rattle.calls.specs.DemandedOfRegisters.{DemandedOfRegisters}
+use Rattle.calls.specs.DemandedOfShapes.{DemandedOfShapes}
 use Rattle.calls.specs.Calls.{Calls, Exports}
 use Rattle.claims.specs.Demands.{Demand1, Demand2, Demand3}
 use Rattle.claims.specs.Exports.{ExportsAnswerAsCalls}
@@ -22,8 +23,10 @@ use Rattle.claims.specs.Spellings.{DeletingEnds, FormsAreSpelled, SpellingHasLe
 use Rattle.claims.specs.Texts.{DecimalsAreNumerals, TextsAreTokens, TextsAreLetters}
 use Rattle.claims.specs.Lists.{ListIsCalls, SomeCalls, LastWordFills, ListRecordsJoined}
 use Rattle.claims.specs.Registers.{RegistersAreRead, EntersWords, OnlyNewBytes, History, SameEntry, Charges}
+use Rattle.claims.specs.Packed.{ShapesGiven, PackUnpack, PackedIsTree, GrownIsPacked, BothByShape}
 use Rattle.claims.specs.Receipts.{LinesOfBytes, LinesInParts, ServesMetLines, CutKeepsReceipt, ReceiptsOfInput}
 use Rattle.worked.specs.Worked.{Worked, WorkedForms, WorkedRegisters}
+use Rattle.worked.specs.Shapes.{WorkedShapes}
 
 pub record Claims : Type 2 where
   -- The demands, said of the functions and of the exports: calls, Demanded.
@@ -34,6 +37,8 @@ pub record Claims : Type 2 where
   pub demanded-of-lists : DemandedOfLists
   -- The same of the register's calls: calls, DemandedOfRegisters.
   pub demanded-of-registers : DemandedOfRegisters
+  -- The same of the calls on packed shapes: calls, DemandedOfShapes.
+  pub demanded-of-shapes : DemandedOfShapes
   -- That the contracts of the claims are those of the functions: calls, Calls.
   pub calls : Calls
   pub exports : Exports
@@ -114,13 +119,20 @@ pub record Claims : Type 2 where
   pub history : History
   pub same-entry : SameEntry
   pub charges : Charges
+  -- Packed shapes: claims, Packed.
+  pub shapes-given : ShapesGiven
+  pub pack-unpack : PackUnpack
+  pub packed-is-tree : PackedIsTree
+  pub grown-is-packed : GrownIsPacked
+  pub both-by-shape : BothByShape
   -- Receipts: claims, Receipts.
   pub lines-of-bytes : LinesOfBytes
   pub lines-in-parts : LinesInParts
   pub serves-met-lines : ServesMetLines
   pub cut-keeps-receipt : CutKeepsReceipt
   pub receipts-of-input : ReceiptsOfInput
-  -- Worked examples: worked, Worked.
+  -- Worked examples: worked, Worked and Shapes.
   pub worked : Worked
   pub worked-forms : WorkedForms
   pub worked-registers : WorkedRegisters
+  pub worked-shapes : WorkedShapes

@@ -3,5 +3,6 @@ pub mod Always
 pub mod Demanded
 pub mod DemandedOfLists
 pub mod DemandedOfRegisters
+pub mod DemandedOfShapes
 pub mod Calls
 pub mod Claims

@@ -1,8 +1,9 @@
-// The fields of a line, with a space between: words, decimal numbers, bytes in hexadecimal digits, `-` where there are
-// none.
+// The fields of a line, with a space between: words, decimal numbers, bytes in hexadecimal digits, numbers with a comma
+// between, `-` where there are none.
 ghost use Prim.Native.Nat.{_-_, _≤_};
 ghost use lib.ListN.{length};
 use crate::parts;
+use std::num::wrapping_add_u64;
 use std::num::wrapping_add_usize;
 use std::num::wrapping_sub_usize;
 
@@ -64,12 +65,12 @@ pub fn lent(line: &[u8]) -> Sizes {
     }
 }
 
-// The number in a field.
+// The number in a field, at most 2^64 - 1.
 pub fn number(field: &[u8]) -> u64 {
     let mut value = 0;
     let mut i = 0;
     while i < field.len() {
-        value = value % 1000000000000 * 10 + (field[i] % 16) as u64;
+        value = wrapping_add_u64(value % 1844674407370955162 * 10, (field[i] % 16) as u64);
         i += 1;
     }
     value
@@ -98,6 +99,45 @@ pub fn bytes(field: &[u8], out: &mut [u8]) -> usize {
     let mut i = 0;
     while i < n && i < out.len() {
         parts::put(out, i, byte(field, i));
+        i += 1;
+    }
+    i
+}
+
+// A number in hexadecimal digits.
+fn hexadecimal(digits: &[u8]) -> u64 {
+    let mut value = 0;
+    let mut i = 0;
+    while i < digits.len() {
+        value = value % 1152921504606846976 * 16 + (digit(digits, i) % 16) as u64;
+        i += 1;
+    }
+    value
+}
+
+// The numbers in a field, in hexadecimal digits with a comma between, and how many.
+pub fn numbers(field: &[u8], out: &mut [u64]) -> usize {
+    let mut i = 0;
+    while i < out.len() {
+        let digits = piece(field, i, b'0');
+        if digits.len() == 0 {
+            return i;
+        }
+        out[i] = hexadecimal(digits);
+        i += 1;
+    }
+    i
+}
+
+// The entries of a table in a field, decimal numbers with a comma between, and how many.
+pub fn entries(field: &[u8], out: &mut [u16]) -> usize {
+    let mut i = 0;
+    while i < out.len() {
+        let digits = piece(field, i, b'0');
+        if digits.len() == 0 {
+            return i;
+        }
+        out[i] = (number(digits) % 65536) as u16;
         i += 1;
     }
     i

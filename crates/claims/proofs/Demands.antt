@@ -43,6 +43,7 @@ use Rattle.claims.proofs.PhraseCalls.{phrase-refused, phrased-as, phras
 use Rattle.claims.proofs.RegisterRefusals.{read↔refusal}
 use Rattle.claims.proofs.EnterCalls.{enter-refused}
 use Rattle.claims.proofs.ListRefusals.{list-refused}
+use Rattle.claims.proofs.PackedRefusals.{pack-refused, unpack-refused, node-refused, grow-refused}
 
 -- Word to record refuses as the word is judged, and then leaves everything.
 word-refused : {u : List ℕ} {m m′ : Memory} {r : Reply} → Recorded u m m′ r
@@ -129,6 +130,11 @@ demand1 = record {
       refuses-when (λ q. 0) (readRegister s) (h .result) (RegisterRefusal s) (read↔refusal s (h .are-bytes));
   enter-word = enter-refused;
   list-to-records = λ list m m′ r. list-refused;
+  pack-shape = λ s xs ys xs′ ys′ r. pack-refused;
+  unpack-shape = λ xs ys s s′ r. unpack-refused;
+  carets-before = λ xs ys k r. node-refused;
+  subtree-end = λ xs ys k r. node-refused;
+  grow-caret = λ xs ys xs′ ys′ k r. grow-refused;
 }
 
 pub demand2 : Demand2

@@ -1,7 +1,7 @@
 -- The claims of specs/Exports.antt, proved: the numbers of an answer are read back as what it says. Assumes nothing.
 use mathlib.Core.Path.{ap, _∙_}
 use Rattle.thompson.specs.Codes.{outcomeOf, decisionIn, replyIn}
-use Rattle.thompson.proofs.Codes.{verdict-read, reply-read, comparison-read, live-read, entered-read}
+use Rattle.thompson.proofs.Codes.{verdict-read, reply-read, node-end-read, comparison-read, live-read, entered-read}
 use Rattle.claims.specs.Exports.{ExportsAnswerAsCalls}
 
 pub exports-answer-as-calls : ExportsAnswerAsCalls
@@ -21,4 +21,9 @@ exports-answer-as-calls = record {
   enter-word = λ u m m′ h s s′ a p. (p .passed, p .meets, ap replyIn (p .numbers) ∙ entered-read (p .passed));
   check-register = λ s a h. (h .passed, h .meets, ap outcomeOf (h .numbers) ∙ verdict-read (h .passed));
   live-entries = λ s h a p. (p .passed, p .meets, ap outcomeOf (p .numbers) ∙ live-read (p .passed));
+  pack-shape = λ s xs ys xs′ ys′ a h. (h .passed, h .meets, ap outcomeOf (h .numbers) ∙ reply-read (h .passed));
+  unpack-shape = λ xs ys s s′ a h. (h .passed, h .meets, ap outcomeOf (h .numbers) ∙ reply-read (h .passed));
+  carets-before = λ xs ys k a h. (h .passed, h .meets, ap outcomeOf (h .numbers) ∙ reply-read (h .passed));
+  subtree-end = λ xs ys k a h. (h .passed, h .meets, ap outcomeOf (h .numbers) ∙ node-end-read (h .passed));
+  grow-caret = λ xs ys xs′ ys′ k a h. (h .passed, h .meets, ap outcomeOf (h .numbers) ∙ reply-read (h .passed));
 }

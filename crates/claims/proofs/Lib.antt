@@ -17,6 +17,7 @@ pub mod Filings
 pub mod EnterCalls
 pub mod ListRefusals
 pub mod LineCalls
+pub mod PackedRefusals
 pub mod Demands
 pub mod Exports
 pub mod Forms
@@ -27,4 +28,6 @@ pub mod Texts
 pub mod Receipts
 pub mod Registers
 pub mod Lists
+pub mod PackedGiven
+pub mod Packed
 pub mod Sentences

@@ -1,15 +1,16 @@
--- Demands 1, 2 and 3 on the twelve calls, over the calls' contracts; proofs/Demands.antt has the proofs. The demands as
--- they were set are quoted in docs/DECISIONS.md. crates/calls/specs/Demanded.antt says the same of the functions, with
--- no contract in it.
+-- Demands 1, 2 and 3 on the seventeen calls, over the calls' contracts; proofs/Demands.antt has the proofs. The demands
+-- as they were set are quoted in docs/DECISIONS.md. crates/calls/specs/Demanded.antt says the same of the functions,
+-- with no contract in it.
 -- What need not be believed: contracts (the first group below) stand left of the arrows only. Each function is proved
 -- to meet its contract (crate `calls`), so a reader has to believe what stands on the right, and the order in which a
 -- function's `ensures` hands its arguments to the contract. The demands bind the six calls of 01, the two of 02, [1],
--- and that of 02, [5], their exports too; demand 1 binds the two of 02, [3], and that of 02, [4], as well, and
--- specs/Registers.antt and specs/Lists.antt say what those give. `Unfit`, which functions inside may answer, is met by
--- none of them.
--- Letters: u, v bytes lent as a word; w, x words; s bytes lent as a record or as a register; h a holder; m, k memory
--- lent with a word, a text or a list; p, q buffers for shapes; t bytes lent as a text, or a buffer for letters; ps
--- powers; f, g a form or a call; a ′ marks the same memory at exit.
+-- and that of 02, [5], their exports too; demand 1 binds the two of 02, [3], that of 02, [4], and the five of 02, [6],
+-- as well, and specs/Registers.antt, specs/Lists.antt and specs/Packed.antt say what those give. `Unfit`, which
+-- functions inside may answer, is met by none of them.
+-- Letters: u, v bytes lent as a word; w, x words; s bytes lent as a record, a register or a shape; h a holder; m, k
+-- memory lent with a word, a text or a list; p, q, also s, buffers for shapes; xs, ys numbers and summary of a packed
+-- shape, beside them k a node or a leaf; t bytes lent as a text, or a buffer for letters; ps powers; f, g a form or a
+-- call; a ′ marks the same memory at exit.
 -- Contracts, and the crate and file that define each:
 --     Recorded u m m′ r           word_to_record                                                  words, Recording
 --     Checked s r                 check_record                                                    records, Checking
@@ -23,6 +24,11 @@
 --     RegisterChecked s r         check_register                                                  registers, Answers
 --     EnteredWord u m m′ h s s′ r enter_word, holder h                                            updates, Entering
 --     Listed list m m′ r          list_to_records, lent `list` with a word a line                 wordlists, Listing
+--     Repacked o xs ys xs′ ys′ r  pack_shape, o packing s xs ys; grow_caret, o growing xs ys k    packed, Contracts
+--     Placed o s s′ r             unpack_shape, o unpacking xs ys s                               refusals, Placing
+--     packing, unpacking, growing the shape that such a call packs or writes, or its refusal      packed, Contracts
+--     AnswersNode f xs ys k o     carets_before, f caretsBefore; subtree_end, f subtreeEnd        packed, Contracts
+--     caretsBefore, subtreeEnd    the carets before a node; where its subtree ends     packed, Packing; trees, Shapes
 -- Calls and answers:
 --     WordCall w, TextCall ps     an accepted call on the bytes of w, on the text of powers ps    claims, Calls
 --     CallOn w, recordBy f        one of both, on the word w; the record that it wrote            claims, Calls
@@ -31,6 +37,7 @@
 --     Reply, Verdict              answer types; replyOf, verdictOf: their outcomes                refusals, Outcomes
 --     Comparison, decisionOf      the answer on two words; same, different, or a refused word   comparisons, Comparing
 --     Entered, numberOfEntered    the answer on a filing; its outcome, with the entry's number    updates, Entering
+--     NodeEnd, nodeEndOf          the answer that is a node; its outcome                          packed, Answers
 -- On the right sides:
 --     Refuses o R                 each refusal is the outcome o just when R holds of it           claims, Answers
 --     RefusesWords d R S          the same of two words                                           claims, Answers
@@ -40,6 +47,7 @@
 --     RegisterRefusal s           12: the bytes are no register                                   claims, Registers
 --     EnterRefusal u m h s        a word's own, then 12, then, unless it is filed, 13 and 14      claims, Registers
 --     ListRefusal list m          of tables and output lent with a list: 6, then 7                claims, Lists
+--     PackRefusal, UnpackRefusal, NodeRefusal, GrowRefusal    of shapes: 15, then 7               claims, Packed
 --     NoWordRefusal u m           none of 1, 2, 6 and 7 holds: the word is accepted               claims, Refusals
 --     ShortTable, ShortBuffer u m the condition of 6, of 7                                        claims, Refusals
 --     NoTextRefusal, ShortTables, ShortRecord    the same of texts: 9, 10, 11, 6 and 7            claims, Refusals
@@ -65,8 +73,10 @@ use Rattle.refusals.specs.Outcomes.{accepted, verdictOf, replyOf}
 use Rattle.refusals.specs.declared.Verdict.{Verdict}
 use Rattle.refusals.specs.declared.Reply.{Reply}
 use Rattle.refusals.specs.Memory.{Memory}
+use Rattle.refusals.specs.Placing.{Placed}
 use Rattle.records.specs.Format.{IsRecord}
 use Rattle.records.specs.Checking.{Checked}
+use Rattle.trees.specs.Shapes.{subtreeEnd}
 use Rattle.lengths.specs.Weights.{formLength}
 use Rattle.pairs.specs.Contracts.{Paired, labelSum, Measured}
 use Rattle.spelling.specs.Contracts.{Spelled}
@@ -77,6 +87,10 @@ use Rattle.words.specs.Recording.{Recorded}
 use Rattle.comparisons.specs.Comparing.{Compared, decisionOf, same, different}
 use Rattle.comparisons.specs.declared.Comparison.{Comparison}
 use Rattle.wordlists.specs.Listing.{Listed}
+use Rattle.packed.specs.Packing.{caretsBefore}
+use Rattle.packed.specs.Answers.{nodeEndOf}
+use Rattle.packed.specs.Contracts.{packing, unpacking, growing, Repacked, AnswersNode}
+use Rattle.packed.specs.declared.NodeEnd.{NodeEnd}
 use Rattle.registers.specs.Answers.{RegisterChecked}
 use Rattle.updates.specs.Entering.{numberOfEntered, EnteredWord}
 use Rattle.updates.specs.declared.Entered.{Entered}
@@ -91,10 +105,12 @@ use Rattle.claims.specs.Given.{RecordOfWord, PairOfRecord, LengthOfRecor
 use Rattle.claims.specs.Given.{RecordOfText, TextOfRecord}
 use Rattle.claims.specs.Registers.{RegisterRefusal, EnterRefusal}
 use Rattle.claims.specs.Lists.{ListRefusal}
+use Rattle.claims.specs.Packed.{PackRefusal, UnpackRefusal, NodeRefusal, GrowRefusal}
 
 -- Demand 1: each refusal is given under its condition and at no other time, and alters nothing that was lent. A word is
 -- accepted when no condition of 1, 2, 6 or 7 holds, a text when none of 9, 10, 11, 6 or 7 does, and the check accepts
--- just the records of forms. A register is checked, a word filed and a list taken by the same sentence.
+-- just the records of forms. A register is checked, a word filed, a list taken and a shape packed, unpacked, asked of a
+-- node or grown by the same sentence.
 pub record Demand1 : Type 0 where
   pub word-to-record : (u : List ℕ) (m m′ : Memory) (r : Reply) → Recorded u m m′ r
       → Refuses (replyOf r) (WordRefusal u m) × (IsRefused (replyOf r) → m′ ≡ m)
@@ -123,6 +139,17 @@ pub record Demand1 : Type 0 where
       × (IsRefused (numberOfEntered r) → (m′ ≡ m) × (s′ ≡ s))
   pub list-to-records : (list : List ℕ) (m m′ : Memory) (r : Reply) → Listed list m m′ r
       → Refuses (replyOf r) (ListRefusal list m) × (IsRefused (replyOf r) → m′ ≡ m)
+  pub pack-shape : (s xs ys xs′ ys′ : List ℕ) (r : Reply) → Repacked (packing s xs ys) xs ys xs′ ys′ r
+      → Refuses (replyOf r) (PackRefusal s (length xs) (length ys))
+      × (IsRefused (replyOf r) → (xs′ ≡ xs) × (ys′ ≡ ys))
+  pub unpack-shape : (xs ys s s′ : List ℕ) (r : Reply) → Placed (unpacking xs ys s) s s′ r
+      → Refuses (replyOf r) (UnpackRefusal xs ys (length s)) × (IsRefused (replyOf r) → s′ ≡ s)
+  pub carets-before : (xs ys : List ℕ) (k : ℕ) (r : Reply) → AnswersNode (λ s. caretsBefore s k) xs ys k (replyOf r)
+      → Refuses (replyOf r) (NodeRefusal xs ys k)
+  pub subtree-end : (xs ys : List ℕ) (k : ℕ) (r : NodeEnd) → AnswersNode (λ s. subtreeEnd s k) xs ys k (nodeEndOf r)
+      → Refuses (nodeEndOf r) (NodeRefusal xs ys k)
+  pub grow-caret : (xs ys xs′ ys′ : List ℕ) (k : ℕ) (r : Reply) → Repacked (growing xs ys k) xs ys xs′ ys′ r
+      → Refuses (replyOf r) (GrowRefusal xs ys k) × (IsRefused (replyOf r) → (xs′ ≡ xs) × (ys′ ≡ ys))
 
 -- Demand 2: the bytes of an accepted word are those of one word, and its record has that word's map. A record gives the
 -- tree pair, the length, also by Table 1, and the spelling of its form. The spelling is joined to every word with that

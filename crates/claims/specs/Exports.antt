@@ -4,7 +4,7 @@
 --     Passed code contract r   the contract of each export                                            thompson, Codes
 --     outcomeOf, decisionIn    what a caller reads in the numbers: 0 and a value, or number and place thompson, Codes
 --     replyIn, liveOf          the same in the four numbers of a filing; the live count of an account thompson, Codes
---     the contracts, and replyOf, verdictOf, decisionOf                       the glossary of Demands.antt
+--     the contracts, and replyOf, verdictOf, decisionOf, nodeEndOf            the glossary of Demands.antt
 -- Assumes nothing.
 use mathlib.Core.Path.{_≡_}
 use mathlib.Core.List.{List}
@@ -13,7 +13,9 @@ use Rattle.refusals.specs.Outcomes.{verdictOf, replyOf}
 use Rattle.refusals.specs.declared.Verdict.{Verdict}
 use Rattle.refusals.specs.declared.Reply.{Reply}
 use Rattle.refusals.specs.Memory.{Memory}
+use Rattle.refusals.specs.Placing.{Placed}
 use Rattle.records.specs.Checking.{Checked}
+use Rattle.trees.specs.Shapes.{subtreeEnd}
 use Rattle.lengths.specs.Weights.{formLength}
 use Rattle.pairs.specs.Contracts.{Paired, labelSum, Measured}
 use Rattle.spelling.specs.Contracts.{Spelled}
@@ -22,6 +24,10 @@ use Rattle.words.specs.Recording.{Recorded}
 use Rattle.comparisons.specs.Comparing.{Compared, decisionOf}
 use Rattle.comparisons.specs.declared.Comparison.{Comparison}
 use Rattle.wordlists.specs.Listing.{Listed}
+use Rattle.packed.specs.Packing.{caretsBefore}
+use Rattle.packed.specs.Answers.{nodeEndOf}
+use Rattle.packed.specs.Contracts.{packing, unpacking, growing, Repacked, AnswersNode}
+use Rattle.packed.specs.declared.NodeEnd.{NodeEnd}
 use Rattle.registers.specs.Answers.{RegisterChecked}
 use Rattle.updates.specs.Accounts.{AccountRead}
 use Rattle.updates.specs.Entering.{enteredOf, repliedOf, EnteredWord}
@@ -66,3 +72,18 @@ pub record ExportsAnswerAsCalls : Type 0 where
       → (r : Verdict) × RegisterChecked s r × (outcomeOf a ≡ verdictOf r)
   pub live-entries : (s : List ℕ) (h : ℕ) (a : Answer) → Passed (λ r. codeOf (liveOf r)) (AccountRead s h) a
       → (r : AccountOf) × AccountRead s h r × (outcomeOf a ≡ liveOf r)
+  pub pack-shape : (s xs ys xs′ ys′ : List ℕ) (a : Answer)
+      → Passed (λ r. codeOf (replyOf r)) (Repacked (packing s xs ys) xs ys xs′ ys′) a
+      → (r : Reply) × Repacked (packing s xs ys) xs ys xs′ ys′ r × (outcomeOf a ≡ replyOf r)
+  pub unpack-shape : (xs ys s s′ : List ℕ) (a : Answer)
+      → Passed (λ r. codeOf (replyOf r)) (Placed (unpacking xs ys s) s s′) a
+      → (r : Reply) × Placed (unpacking xs ys s) s s′ r × (outcomeOf a ≡ replyOf r)
+  pub carets-before : (xs ys : List ℕ) (k : ℕ) (a : Answer)
+      → Passed (λ r. codeOf (replyOf r)) (λ r. AnswersNode (λ s. caretsBefore s k) xs ys k (replyOf r)) a
+      → (r : Reply) × AnswersNode (λ s. caretsBefore s k) xs ys k (replyOf r) × (outcomeOf a ≡ replyOf r)
+  pub subtree-end : (xs ys : List ℕ) (k : ℕ) (a : Answer)
+      → Passed (λ r. codeOf (nodeEndOf r)) (λ r. AnswersNode (λ s. subtreeEnd s k) xs ys k (nodeEndOf r)) a
+      → (r : NodeEnd) × AnswersNode (λ s. subtreeEnd s k) xs ys k (nodeEndOf r) × (outcomeOf a ≡ nodeEndOf r)
+  pub grow-caret : (xs ys xs′ ys′ : List ℕ) (k : ℕ) (a : Answer)
+      → Passed (λ r. codeOf (replyOf r)) (Repacked (growing xs ys k) xs ys xs′ ys′) a
+      → (r : Reply) × Repacked (growing xs ys k) xs ys xs′ ys′ r × (outcomeOf a ≡ replyOf r)

@@ -14,4 +14,5 @@ pub mod Texts
 pub mod Receipts
 pub mod Registers
 pub mod Lists
+pub mod Packed
 pub mod Sentences

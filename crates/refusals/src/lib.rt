@@ -1,4 +1,4 @@
-// The refusals of the calls, with the number and the place of each; the limit; the three kinds of counts.
+// The refusals of the calls, with the number and the place of each; the limit; the four kinds of counts.
 ghost use mathlib.Core.Path.{_≡_};
 ghost use Rattle.group.specs.Limits.{limit as theLimit};
 ghost use Rattle.refusals.specs.Refusals.{numberOf, placeOf};
@@ -15,6 +15,9 @@ pub struct LeafNumber(pub u16);
 
 // The number of a caret of a tree: caret k stands between the leaves k and k + 1.
 pub struct CaretNumber(pub u16);
+
+// The number of a node of a shape, counted from 0 in the order in which the shape is written.
+pub struct NodeNumber(pub usize);
 
 // Why a call refuses what it was given.
 pub enum Refusal {
@@ -46,6 +49,8 @@ pub enum Refusal {
     HolderFull,
     // The entry does not fit the register, or its number would pass the highest.
     RegisterFull,
+    // A shape, packed or not, that is no tree within the bound or has a wrong summary, or a node or leaf it lacks.
+    NotTree,
 }
 
 // Accepted or refused: the answer of calls that write nothing.
@@ -86,6 +91,7 @@ pub fn number(r: Refusal) -> u8
         Refusal::BadRegister => 12,
         Refusal::HolderFull => 13,
         Refusal::RegisterFull => 14,
+        Refusal::NotTree => 15,
     }
 }
 
@@ -108,6 +114,7 @@ pub fn place(r: Refusal) -> usize
         Refusal::BadRegister => 0,
         Refusal::HolderFull => 0,
         Refusal::RegisterFull => 0,
+        Refusal::NotTree => 0,
     }
 }
 

@@ -9,7 +9,23 @@ use native.Mathlib.Omega.{arith}
 use lib.ListN.{drop, getD}
 use lib.Seq.{drop-drop, getD-drop}
 use Rattle.scans.specs.declared.columns.State.{State}
-use Rattle.scans.specs.inside.Steps.{runBy, runOf, RunsBy, Runs, columnOf, Ready, stretchedBy, Stretch, AmidAt, Zeros, Passing, Passed, Reached, Scanning, Scanned}
+use Rattle.scans.specs.inside.Steps.{
+  runBy,
+  runOf,
+  RunsBy,
+  Runs,
+  columnOf,
+  Ready,
+  stretchedBy,
+  Stretch,
+  AmidAt,
+  Zeros,
+  Passing,
+  Passed,
+  Reached,
+  Scanning,
+  Scanned,
+}
 use Rattle.scans.proofs.Stretches.{runs-fewer}
 use Rattle.scans.proofs.Reaching.{column-ready, column-reached, run-room, amid-run}
 

@@ -8,7 +8,7 @@ use Rattle.refusals.specs.declared.Refusal.{Refusal}
 use Rattle.refusals.specs.declared.Refusal.the-variants.{TooManyLetters, NotLetter, BadFrame, BadEntry}
 use Rattle.refusals.specs.declared.Refusal.the-variants.{NotReduced, ShortTable, ShortBuffer, LongSpelling}
 use Rattle.refusals.specs.declared.Refusal.the-variants.{Misspelled, LargeExponents, HighIndex}
-use Rattle.refusals.specs.declared.Refusal.the-variants.{BadRegister, HolderFull, RegisterFull}
+use Rattle.refusals.specs.declared.Refusal.the-variants.{BadRegister, HolderFull, RegisterFull, NotTree}
 use Rattle.refusals.specs.declared.Verdict.{Verdict}
 use Rattle.refusals.specs.declared.Verdict.the-variants as Verdicts
 use Rattle.refusals.specs.declared.Reply.{Reply}
@@ -18,6 +18,9 @@ use Rattle.refusals.specs.Outcomes.{refused, refusal, verdictOf, replyOf}
 use Rattle.comparisons.specs.declared.Comparison.{Comparison}
 use Rattle.comparisons.specs.declared.Comparison.the-variants.{Same, Different, First, Second}
 use Rattle.comparisons.specs.Comparing.{refusedWord, decisionOf}
+use Rattle.packed.specs.declared.NodeEnd.{NodeEnd}
+use Rattle.packed.specs.declared.NodeEnd.the-variants as NodeEnds
+use Rattle.packed.specs.Answers.{nodeEndOf}
 use Rattle.updates.specs.declared.AccountOf.{AccountOf}
 use Rattle.updates.specs.declared.AccountOf.the-variants as Accounts
 use Rattle.updates.specs.declared.Entered.{Entered}
@@ -46,6 +49,7 @@ number-some HighIndex = (lit< tt, lit< tt)
 number-some BadRegister = (lit< tt, lit< tt)
 number-some HolderFull = (lit< tt, lit< tt)
 number-some RegisterFull = (lit< tt, lit< tt)
+number-some NotTree = (lit< tt, lit< tt)
 
 -- So it is read as a refusal, and the word beside it is parted from it.
 read-number : (n place : ℕ) → 0 < n → readOutcome n place ≡ refused n place
@@ -73,6 +77,10 @@ verdict-read (Verdicts.Refused r) = refusal-read r
 pub reply-read : (w : Reply) → outcomeOf (codeOf (replyOf w)) ≡ replyOf w
 reply-read (Replies.Number n) = refl
 reply-read (Replies.Refused r) = refusal-read r
+
+pub node-end-read : (e : NodeEnd) → outcomeOf (codeOf (nodeEndOf e)) ≡ nodeEndOf e
+node-end-read (NodeEnds.Node n) = refl
+node-end-read (NodeEnds.Refused r) = refusal-read r
 
 pub comparison-read : (c : Comparison) → decisionIn (codeOfDecision (decisionOf c)) ≡ decisionOf c
 comparison-read Same = refl

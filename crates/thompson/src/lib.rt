@@ -4,6 +4,7 @@
 ghost use mathlib.Core.Path.{_≡_};
 ghost use Rattle.refusals.specs.Outcomes.{verdictOf, replyOf};
 ghost use Rattle.refusals.specs.Memory.{memory};
+ghost use Rattle.refusals.specs.Placing.{Placed};
 ghost use Rattle.records.specs.Checking.{Checked};
 ghost use Rattle.words.specs.Recording.{Recorded};
 ghost use Rattle.comparisons.specs.Comparing.{decisionOf, Compared};
@@ -15,8 +16,15 @@ ghost use Rattle.notation.specs.Contracts.{TextRecorded, TextWritten};
 ghost use Rattle.registers.specs.Answers.{RegisterChecked};
 ghost use Rattle.updates.specs.Accounts.{AccountRead};
 ghost use Rattle.updates.specs.Entering.{enteredOf, EnteredWord};
+ghost use Rattle.trees.specs.Shapes.{subtreeEnd};
+ghost use Rattle.packed.specs.Packing.{caretsBefore};
+ghost use Rattle.packed.specs.Answers.{nodeEndOf};
+ghost use Rattle.packed.specs.Contracts.{packing, unpacking, growing, Repacked, AnswersNode};
 ghost use Rattle.thompson.specs.Codes.{codeOf, codeOfDecision, codeOfEntered, liveOf, Passed};
 use comparisons::Comparison;
+use packed::NodeEnd;
+use refusals::LeafNumber;
+use refusals::NodeNumber;
 use refusals::Refusal;
 use refusals::Reply;
 use refusals::Verdict;
@@ -114,6 +122,19 @@ fn from_account(a: AccountOf) -> Answer
             value: account.live,
         },
         AccountOf::Refused(r) => refused(r),
+    }
+}
+
+// The value is the node.
+fn from_node_end(e: NodeEnd) -> Answer
+    ensures { λ s. ⌜ s ≡ codeOf (nodeEndOf e) ⌝ }
+{
+    match e {
+        NodeEnd::Node(node) => Answer {
+            refusal: 0,
+            value: node.0 as u64,
+        },
+        NodeEnd::Refused(r) => refused(r),
     }
 }
 
@@ -307,4 +328,64 @@ pub extern "C" fn thompson_live_entries(register: &[u8], holder: u16) -> Answer
     ensures { λ r. ⌜ Passed (λ a. codeOf (liveOf a)) (AccountRead (now (register .entry)) holder) r ⌝ }
 {
     from_account(updates::account_of(register, holder))
+}
+
+// Shape to packed shape; the value is how many numbers it takes.
+#[no_mangle]
+pub extern "C" fn thompson_pack_shape(
+    shape: &[u8],
+    numbers: &mut [u64],
+    summary: &mut [u16],
+) -> Answer
+    ensures { λ r. ⌜ Passed (λ a. codeOf (replyOf a))
+        (Repacked (packing (now (shape .entry)) (now (numbers .entry)) (now (summary .entry)))
+        (now (numbers .entry)) (now (summary .entry)) (now (numbers .exit)) (now (summary .exit))) r ⌝ }
+{
+    from_reply(packed::pack_shape(shape, numbers, summary))
+}
+
+// Packed shape to shape; the value is the number of bytes written.
+#[no_mangle]
+pub extern "C" fn thompson_unpack_shape(
+    numbers: &[u64],
+    summary: &[u16],
+    shape: &mut [u8],
+) -> Answer
+    ensures { λ r. ⌜ Passed (λ a. codeOf (replyOf a))
+        (Placed (unpacking (now (numbers .entry)) (now (summary .entry)) (now (shape .entry)))
+        (now (shape .entry)) (now (shape .exit))) r ⌝ }
+{
+    from_reply(packed::unpack_shape(numbers, summary, shape))
+}
+
+// The carets before a node of a packed shape; the value is their number.
+#[no_mangle]
+pub extern "C" fn thompson_carets_before(numbers: &[u64], summary: &[u16], node: u64) -> Answer
+    ensures { λ r. ⌜ Passed (λ a. codeOf (replyOf a)) (λ a. AnswersNode (λ s. caretsBefore s node)
+        (now (numbers .entry)) (now (summary .entry)) node (replyOf a)) r ⌝ }
+{
+    from_reply(packed::carets_before(numbers, summary, NodeNumber(node as usize)))
+}
+
+// Where the subtree of a node of a packed shape ends; the value is the node just behind its last.
+#[no_mangle]
+pub extern "C" fn thompson_subtree_end(numbers: &[u64], summary: &[u16], node: u64) -> Answer
+    ensures { λ r. ⌜ Passed (λ a. codeOf (nodeEndOf a)) (λ a. AnswersNode (λ s. subtreeEnd s node)
+        (now (numbers .entry)) (now (summary .entry)) node (nodeEndOf a)) r ⌝ }
+{
+    from_node_end(packed::subtree_end(numbers, summary, NodeNumber(node as usize)))
+}
+
+// A caret grown at a leaf of a packed shape; the value is how many numbers the grown shape takes. No tree within the
+// bound has a leaf above 65,535.
+#[no_mangle]
+pub extern "C" fn thompson_grow_caret(numbers: &mut [u64], summary: &mut [u16], leaf: u64) -> Answer
+    ensures { λ r. ⌜ Passed (λ a. codeOf (replyOf a))
+        (Repacked (growing (now (numbers .entry)) (now (summary .entry)) leaf)
+        (now (numbers .entry)) (now (summary .entry)) (now (numbers .exit)) (now (summary .exit))) r ⌝ }
+{
+    if 65535 < leaf {
+        return refused(Refusal::NotTree);
+    }
+    from_reply(packed::grow_caret(numbers, summary, LeafNumber(leaf as u16)))
 }

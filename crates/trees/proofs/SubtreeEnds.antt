@@ -65,7 +65,7 @@ pub node-bytes : (t : Tree) (k : ℕ) (u : Address) (x : Tree) → Node t k u �
 node-bytes t k u x h g = bytes-at t k u x (to-node t k u h) g
 
 -- The next 0 subtrees have no bytes.
-span-none : (s : List ℕ) → span s 0 ≡ 0
+pub span-none : (s : List ℕ) → span s 0 ≡ 0
 span-none [] = refl
 span-none (b ∷ s) = refl
 

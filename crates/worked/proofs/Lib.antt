@@ -1,2 +1,3 @@
 -- The proofs of the worked examples.
 pub mod Worked
+pub mod Shapes

@@ -1,2 +1,3 @@
 -- The worked examples of the papers.
 pub mod Worked
+pub mod Shapes
