@@ -49,7 +49,7 @@ use Rattle.packed.proofs.pack_shape as pack-shape
 use Rattle.packed.proofs.unpack_shape as unpack-shape
 use Rattle.packed.proofs.carets_before as carets-before
 use Rattle.packed.proofs.subtree_end as subtree-end
-use Rattle.packed.proofs.grow_caret as grow-caret
+use Rattle.growing.proofs.grow_caret as grow-caret
 use Rattle.receipts.proofs.begin as begin
 use Rattle.receipts.proofs.serve as serve
 use Rattle.receipts.proofs.finish as finish

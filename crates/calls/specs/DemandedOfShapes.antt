@@ -26,7 +26,7 @@ use Rattle.packed.proofs.pack_shape as pack-shape
 use Rattle.packed.proofs.unpack_shape as unpack-shape
 use Rattle.packed.proofs.carets_before as carets-before
 use Rattle.packed.proofs.subtree_end as subtree-end
-use Rattle.packed.proofs.grow_caret as grow-caret
+use Rattle.growing.proofs.grow_caret as grow-caret
 use Rattle.thompson.proofs.thompson_pack_shape as thompson-pack-shape
 use Rattle.thompson.proofs.thompson_unpack_shape as thompson-unpack-shape
 use Rattle.thompson.proofs.thompson_carets_before as thompson-carets-before

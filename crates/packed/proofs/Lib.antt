@@ -15,7 +15,3 @@ pub mod PackSteps
 pub mod UnpackSteps
 -- the two questions
 pub mod Asking
--- growing
-pub mod LeafSteps
-pub mod GrowSteps
-pub mod GrowAnswers

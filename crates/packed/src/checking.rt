@@ -16,10 +16,12 @@ use trees::MAX_CARETS;
 
 // The numbers that some nodes take.
 pub fn numbers_of(nodes: usize) -> usize
-    requires { ⌜ nodes ≤ 4294967295 ⌝ }
     ensures { λ r. ⌜ r ≡ numbersOf nodes ⌝ }
 {
-    (nodes + NODES - 1) / NODES
+    if nodes % NODES == 0 {
+        return nodes / NODES;
+    }
+    nodes / NODES + 1
 }
 
 // The nodes of the tree that the numbers begin with.

@@ -4,18 +4,15 @@ ghost use Rattle.refusals.specs.Placing.{Placed};
 ghost use Rattle.trees.specs.Shapes.{subtreeEnd};
 ghost use Rattle.packed.specs.Packing.{caretsBefore};
 ghost use Rattle.packed.specs.Answers.{nodeEndOf};
-ghost use Rattle.packed.specs.Contracts.{packing, unpacking, growing, Repacked, AnswersNode};
+ghost use Rattle.packed.specs.Contracts.{packing, unpacking, Repacked, AnswersNode};
 use bitrows::NODES;
 use bitrows::carets_below;
 use bitrows::walk::walk_from;
-use refusals::LeafNumber;
 use refusals::NodeNumber;
 use refusals::Refusal;
 use refusals::Reply;
-use trees::MAX_CARETS;
 
-mod checking;
-mod growing;
+pub mod checking;
 mod packing;
 mod unpacking;
 
@@ -91,31 +88,4 @@ pub fn subtree_end(numbers: &[u64], summary: &[u16], node: NodeNumber) -> NodeEn
         return NodeEnd::Refused(Refusal::NotTree);
     }
     NodeEnd::Node(NodeNumber(walk_from(numbers, node).at))
-}
-
-// A caret and two leaves in place of a leaf; answers how many numbers the grown shape takes.
-pub fn grow_caret(numbers: &mut [u64], summary: &mut [u16], leaf: LeafNumber) -> Reply
-    ensures { λ r. ⌜ Repacked (growing (now (numbers .entry)) (now (summary .entry)) (leaf .0))
-        (now (numbers .entry)) (now (summary .entry)) (now (numbers .exit)) (now (summary .exit)) r ⌝ }
-{
-    let checked = checking::check(numbers, summary);
-    let Reply::Number(nodes) = checked else {
-        return checked;
-    };
-    if nodes <= 2 * leaf.0 as usize {
-        return Reply::Refused(Refusal::NotTree);
-    }
-    if 2 * MAX_CARETS < nodes {
-        return Reply::Refused(Refusal::NotTree);
-    }
-    let n = checking::numbers_of(nodes + 2);
-    if numbers.len() < n {
-        return Reply::Refused(Refusal::ShortBuffer);
-    }
-    if summary.len() < n {
-        return Reply::Refused(Refusal::ShortBuffer);
-    }
-    let node = growing::leaf_node(numbers, summary, nodes, leaf.0 as usize);
-    growing::insert(numbers, summary, nodes, node);
-    Reply::Number(n)
 }

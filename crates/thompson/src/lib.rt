@@ -387,5 +387,5 @@ pub extern "C" fn thompson_grow_caret(numbers: &mut [u64], summary: &mut [u16], 
     if 65535 < leaf {
         return refused(Refusal::NotTree);
     }
-    from_reply(packed::grow_caret(numbers, summary, LeafNumber(leaf as u16)))
+    from_reply(growing::grow_caret(numbers, summary, LeafNumber(leaf as u16)))
 }

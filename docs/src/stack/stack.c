@@ -15,7 +15,9 @@ static uint8_t t_minus[THOMPSON_SHAPE(THOMPSON_CARETS)], t_plus[THOMPSON_SHAPE(T
 static uint16_t b1[LETTERS + 1], a1[LETTERS + 1], b2[LETTERS + 1], a2[LETTERS + 1];
 static uint8_t text[THOMPSON_TEXT(LETTERS)], filed[THOMPSON_REGISTER_MOST];
 static uint8_t list[LETTERS + 4], records[THOMPSON_LIST(2, LETTERS + 2)];
-static size_t length, text_length;
+static uint64_t numbers[THOMPSON_NUMBERS(THOMPSON_CARETS)];
+static uint16_t summary[THOMPSON_NUMBERS(THOMPSON_CARETS)];
+static size_t length, text_length, nodes;
 static thompson_answer answer;
 static thompson_filing filing;
 
@@ -95,6 +97,36 @@ static void *check_register(void *p) {
 
 static void *live_entries(void *p) {
     answer = thompson_live_entries(filed, sizeof filed, 1);
+    return p;
+}
+
+static void *pack_shape(void *p) {
+    answer = thompson_pack_shape(t_plus, nodes, numbers, THOMPSON_NUMBERS(THOMPSON_CARETS), summary,
+                                 THOMPSON_NUMBERS(THOMPSON_CARETS));
+    return p;
+}
+
+static void *unpack_shape(void *p) {
+    answer = thompson_unpack_shape(numbers, THOMPSON_NUMBERS(THOMPSON_CARETS), summary,
+                                   THOMPSON_NUMBERS(THOMPSON_CARETS), t_minus, sizeof t_minus);
+    return p;
+}
+
+static void *carets_before(void *p) {
+    answer = thompson_carets_before(numbers, THOMPSON_NUMBERS(THOMPSON_CARETS), summary,
+                                    THOMPSON_NUMBERS(THOMPSON_CARETS), nodes - 1);
+    return p;
+}
+
+static void *subtree_end(void *p) {
+    answer = thompson_subtree_end(numbers, THOMPSON_NUMBERS(THOMPSON_CARETS), summary,
+                                  THOMPSON_NUMBERS(THOMPSON_CARETS), 0);
+    return p;
+}
+
+static void *grow_caret(void *p) {
+    answer = thompson_grow_caret(numbers, THOMPSON_NUMBERS(THOMPSON_CARETS), summary,
+                                 THOMPSON_NUMBERS(THOMPSON_CARETS), 0);
     return p;
 }
 
@@ -187,6 +219,26 @@ static void register_calls(size_t none) {
     if (answer.value != 1) printf("%d live entries\n", (int)answer.value);
 }
 
+/* The calls on packed shapes, on a comb with one caret less than the most, so that it grows. */
+static void packed_calls(size_t none) {
+    static const struct {
+        const char *name;
+        void *(*call)(void *);
+    } calls[] = {
+        {"pack shape", pack_shape},
+        {"unpack shape", unpack_shape},
+        {"carets before a node", carets_before},
+        {"end of a subtree", subtree_end},
+        {"caret grown", grow_caret},
+    };
+    nodes = THOMPSON_SHAPE(THOMPSON_CARETS - 1);
+    for (size_t i = 0; i < nodes; i++) t_plus[i] = i + 1 < nodes && i % 2 == 0;
+    for (size_t i = 0; i < sizeof calls / sizeof calls[0]; i++) {
+        printf("%-22s %zu bytes more\n", calls[i].name, depth(calls[i].call) - none);
+        if (answer.refusal != 0) printf("refused with %d\n", (int)answer.refusal);
+    }
+}
+
 static void tree_calls(const char *name, void *(*call)(void *), size_t none) {
     printf("\n%s\n", name);
     printf("  form, n = 4096    T-; T+                         carets    bytes  carets    bytes  bytes a caret\n");
@@ -235,6 +287,7 @@ int main(void) {
     printf("  its buffer too short %zu bytes more\n", depth(short_text_to_record) - none);
     if (answer.refusal != 7) printf("refused with %d\n", (int)answer.refusal);
     register_calls(none);
+    packed_calls(none);
     tree_calls("record to tree pair", record_to_tree_pair, none);
     tree_calls("record to length", record_to_length, none);
     tree_calls("the same by Table 1", record_to_label_length, none);

@@ -4,7 +4,7 @@ use native.Mathlib.Omega.{arith}
 use borrow.Author.Needs.{needs}
 use Rattle.refusals.specs.declared.Refusal.the-variants.{NotTree}
 use Rattle.refusals.specs.declared.Reply.the-variants.{Refused}
-use Rattle.packed.proofs.GrowAnswers.{answer-none}
+use Rattle.growing.proofs.GrowAnswers.{answer-none}
 use Rattle.thompson.proofs.thompson_grow_caret.Statement.{statement}
 use Rattle.thompson.proofs.thompson_grow_caret.Tie as tie
 

@@ -4,7 +4,7 @@ use mathlib.Core.List.{List}
 use Prim.Native.Nat.{ℕ, _+_, _-_, _<_, _≤_}
 use native.Mathlib.Omega.{arith}
 use Rattle.bitrows.specs.Numbers.{numbersOf}
-use Rattle.packed.proofs.GrowSteps.{
+use Rattle.growing.proofs.GrowSteps.{
   Grows,
   first-ones,
   first-fits,
@@ -18,8 +18,8 @@ use Rattle.packed.proofs.GrowSteps.{
   shifted-count-fits,
   grows-more,
 }
-use Rattle.packed.proofs.growing.insert.Statement.{statement}
-use Rattle.packed.proofs.growing.insert.Tie as tie
+use Rattle.growing.proofs.inserting.insert.Statement.{statement}
+use Rattle.growing.proofs.inserting.insert.Tie as tie
 
 abbrev Inv-loop : tie.InvT-loop
 Inv-loop numbers₀ summary₀ nodes used end j₀ first carry₀ grown count₀ numbers summary j carry count =

@@ -2,9 +2,9 @@
 use Prim.Native.Nat.{_+_, _-_, _*_, _<_, _≤_}
 use native.Mathlib.Omega.{arith}
 use lib.ListN.{getD}
-use Rattle.packed.proofs.LeafSteps.{holds-returned, holds-last}
-use Rattle.packed.proofs.growing.number_of_leaf.Statement.{statement}
-use Rattle.packed.proofs.growing.number_of_leaf.Tie as tie
+use Rattle.growing.proofs.LeafSteps.{holds-returned, holds-last}
+use Rattle.growing.proofs.inserting.number_of_leaf.Statement.{statement}
+use Rattle.growing.proofs.inserting.number_of_leaf.Tie as tie
 
 abbrev Inv-loop : tie.InvT-loop
 Inv-loop summary n leaf j₀ j = (j < n) × (64 * j ≤ leaf + getD summary j 0)

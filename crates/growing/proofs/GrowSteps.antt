@@ -22,11 +22,12 @@ use Rattle.bitrows.proofs.Numbers.{take-nodes}
 use Rattle.bitrows.proofs.Inserting.{inserted-nodes, number-before, number-opened, total-before}
 use Rattle.bitrows.proofs.Carrying.{carry-first, carry-next, number-shifted}
 use Rattle.bitrows.proofs.Finding.{number-small, number-behind, total-next, total-few}
 use Rattle.packed.specs.Packing.{summaryAt}
 use Rattle.packed.specs.Growing.{growAt}
-use Rattle.packed.specs.inside.Steps.{shapeOf, Growable, GrewAt}
+use Rattle.packed.specs.inside.Steps.{shapeOf}
+use Rattle.growing.specs.inside.Steps.{Growable, GrewAt}
 use Rattle.packed.proofs.Grown.{grow-past}
 use Rattle.packed.proofs.Holding.{held-length, held-nodes, held-number, held-summary}
 
 -- A shape that begins with a leaf.
 grow-first : (s : List ℕ) → 0 < length s → getD s 0 0 ≡ 0 → growAt s 0 ≡ 1 ∷ 0 ∷ s

@@ -6,9 +6,9 @@ use native.Mathlib.Omega.{arith}
 use borrow.Author.Needs.{needs}
 use Rattle.refusals.specs.Outcomes.{accepted, replyOf}
 use Rattle.bitrows.specs.Numbers.{numbersOf}
 use Rattle.packed.specs.inside.Steps.{Room}
 use Rattle.packed.proofs.Checked.{Checked, checked-is}
-use Rattle.packed.proofs.GrowAnswers.{
+use Rattle.growing.proofs.GrowAnswers.{
   checked-leaf,
   checked-growable,
   answer-refused,
@@ -17,8 +17,8 @@ use Rattle.packed.proofs.GrowAnswers.{
   answer-short,
   answer-grown,
 }
-use Rattle.packed.proofs.grow_caret.Statement.{statement}
-use Rattle.packed.proofs.grow_caret.Tie as tie
+use Rattle.growing.proofs.grow_caret.Statement.{statement}
+use Rattle.growing.proofs.grow_caret.Tie as tie
 
 -- The entry, seen from the check.
 abbrev start : tie.After-check → tie.Start

@@ -5,12 +5,13 @@ ghost use mathlib.Core.Bool.{cond};
 ghost use lib.ListN.{length, getD};
 ghost use lib.Dec.{ltb};
 ghost use Rattle.bitrows.specs.inside.Growth.{LeafAt};
-ghost use Rattle.packed.specs.inside.Steps.{shapeOf, Few, HoldsLeaf, HeldLeaf, Growable, GrewAt};
-use crate::checking::numbers_of;
+ghost use Rattle.packed.specs.inside.Steps.{shapeOf};
+ghost use Rattle.growing.specs.inside.Steps.{Few, HoldsLeaf, HeldLeaf, Growable, GrewAt};
 use bitrows::NODES;
 use bitrows::carried;
 use bitrows::leaf_at;
 use bitrows::opened;
+use packed::checking::numbers_of;
 use refusals::NodeNumber;
 
 // The number that holds a leaf: before number j stand 64 j nodes less the carets that the summary counts.

@@ -5,8 +5,8 @@ use native.Mathlib.Omega.{arith}
 use borrow.Author.Needs.{needs}
 use borrow.Author.Tests.{lt-ltb, le-ltb}
 use lib.ListN.{getD}
-use Rattle.packed.proofs.growing.used_number.Statement.{statement}
-use Rattle.packed.proofs.growing.used_number.Tie as tie
+use Rattle.growing.proofs.inserting.used_number.Statement.{statement}
+use Rattle.growing.proofs.inserting.used_number.Tie as tie
 
 mul-result : tie.Need-mul-result
 mul-result c = search needs

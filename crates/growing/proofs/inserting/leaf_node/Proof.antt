@@ -2,10 +2,10 @@
 use native.Mathlib.Omega.{arith}
 use borrow.Author.Needs.{needs}
 use Rattle.bitrows.specs.Numbers.{numbersOf}
-use Rattle.packed.specs.inside.Steps.{HoldsLeaf}
-use Rattle.packed.proofs.LeafSteps.{held-room, held-few, leaf-asks, holds-of, leaf-found}
-use Rattle.packed.proofs.growing.leaf_node.Statement.{statement}
-use Rattle.packed.proofs.growing.leaf_node.Tie as tie
+use Rattle.growing.specs.inside.Steps.{HoldsLeaf}
+use Rattle.growing.proofs.LeafSteps.{held-room, held-few, leaf-asks, holds-of, leaf-found}
+use Rattle.growing.proofs.inserting.leaf_node.Statement.{statement}
+use Rattle.growing.proofs.inserting.leaf_node.Tie as tie
 
 -- The entry, seen from where the number is found.
 abbrev start : tie.After-number-of-leaf → tie.Start

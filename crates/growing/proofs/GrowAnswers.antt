@@ -20,16 +20,17 @@ use Rattle.trees.proofs.Shapes.{shape-length}
 use Rattle.bitrows.specs.Numbers.{numberAt, numbersOf}
 use Rattle.bitrows.specs.inside.Growth.{inserted, LeafAt}
 use Rattle.bitrows.proofs.Inserting.{inserted-length}
 use Rattle.packed.specs.Packing.{summaryAt, packedShape}
 use Rattle.packed.specs.Growing.{grown, growAt, grownShape}
 use Rattle.packed.specs.Contracts.{roomFor, growing, Repacked}
-use Rattle.packed.specs.inside.Steps.{shapeOf, Room, Held, HeldLeaf, Growable, GrewAt}
+use Rattle.packed.specs.inside.Steps.{shapeOf, Room, Held}
+use Rattle.growing.specs.inside.Steps.{HeldLeaf, Growable, GrewAt}
 use Rattle.packed.proofs.Trees.{shape-total}
 use Rattle.packed.proofs.Reading.{packed-tree, packed-refused, room-fits, room-short}
 use Rattle.packed.proofs.Grown.{grown-carets, grow-shape, grown-beyond, grown-full, grown-shape}
 use Rattle.packed.proofs.Checked.{Checked, repacked-refused, repacked-filled}
 use Rattle.packed.proofs.Holding.{held-length, held-nodes}
-use Rattle.packed.proofs.GrowSteps.{grow-inserted}
+use Rattle.growing.proofs.GrowSteps.{grow-inserted}
 
 -- The outcome, by what is read.
 abbrev from-read : (numbers summary : List ℕ) (k : ℕ) → Outcome (List ℕ) → Outcome (List ℕ)

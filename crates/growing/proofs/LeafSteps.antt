@@ -17,9 +17,10 @@ use Rattle.bitrows.specs.Numbers.{numberAt, numbersOf, bitsOf}
 use Rattle.bitrows.specs.inside.Growth.{LeafAt, FoundLeaf}
 use Rattle.bitrows.proofs.Finding.{number-small, total-next, total-few, bits-leaf}
 use Rattle.bitrows.proofs.Leaving.{bits-total}
 use Rattle.packed.specs.Packing.{summaryAt}
-use Rattle.packed.specs.inside.Steps.{shapeOf, Held, HeldLeaf, HoldsLeaf, Few}
+use Rattle.packed.specs.inside.Steps.{shapeOf, Held}
+use Rattle.growing.specs.inside.Steps.{HeldLeaf, HoldsLeaf, Few}
 use Rattle.packed.proofs.Holding.{held-length, held-nodes, held-number, held-summary}
 
 -- The summary has an entry for each number.
 pub held-room : {numbers summary : List ℕ} {n : ℕ} → Held numbers summary n → numbersOf n ≤ length summary
