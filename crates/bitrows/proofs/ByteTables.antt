@@ -1,4 +1,4 @@
--- The table of bytes, by one computed test of its 256 entries.
+-- The table of bytes (src/table.rt), by one computed test of its 256 entries.
 --     byteEntries   the entries                 byte-table   they are the table that a walk reads
 -- Assumes nothing.
 use mathlib.Core.Path.{refl}

@@ -6,6 +6,7 @@ ghost use Rattle.bitrows.specs.inside.Growth.{openedNumber, carriedNumbe
 use refusals::NodeNumber;
 
 mod bytes;
+mod table;
 pub mod walk;
 
 // The nodes of a number.

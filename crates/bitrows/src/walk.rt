@@ -5,8 +5,8 @@ ghost use Prim.Native.Nat.{_%_, _<_};
 ghost use Rattle.bitrows.specs.inside.Walking.{ByteTable, Pending, Reach, walkEnd, Walked};
 use crate::NODES;
 use crate::bytes::BYTE;
-use crate::bytes::BYTES;
 use crate::bytes::pass_bytes;
+use crate::table::BYTES;
 use refusals::NodeNumber;
 use trees::MAX_CARETS;
 

@@ -1,5 +1,5 @@
-// The fields of a line, with a space between: words, decimal numbers, bytes in hexadecimal digits, numbers with a comma
-// between, `-` where there are none.
+// The fields of a line, with a space between: words, decimal numbers, bytes in hexadecimal digits, `-` where there are
+// none.
 ghost use Prim.Native.Nat.{_-_, _≤_};
 ghost use lib.ListN.{length};
 use crate::parts;
@@ -33,7 +33,7 @@ fn gap(line: &[u8], start: usize, least: u8) -> usize {
 }
 
 // Piece i of bytes not below `least`, counted from 0, with one other byte between; empty where there is none.
-fn piece(line: &[u8], i: usize, least: u8) -> &[u8] {
+pub fn piece(line: &[u8], i: usize, least: u8) -> &[u8] {
     let mut start = 0;
     let mut left = i;
     while left > 0 {
@@ -82,7 +82,7 @@ pub fn holder(field: &[u8]) -> u16 {
 }
 
 // A hexadecimal digit.
-fn digit(field: &[u8], i: usize) -> u8 {
+pub fn digit(field: &[u8], i: usize) -> u8 {
     let x = parts::byte(field, i);
     x % 16 + x / 64 * 9
 }
@@ -99,45 +99,6 @@ pub fn bytes(field: &[u8], out: &mut [u8]) -> usize {
     let mut i = 0;
     while i < n && i < out.len() {
         parts::put(out, i, byte(field, i));
-        i += 1;
-    }
-    i
-}
-
-// A number in hexadecimal digits.
-fn hexadecimal(digits: &[u8]) -> u64 {
-    let mut value = 0;
-    let mut i = 0;
-    while i < digits.len() {
-        value = value % 1152921504606846976 * 16 + (digit(digits, i) % 16) as u64;
-        i += 1;
-    }
-    value
-}
-
-// The numbers in a field, in hexadecimal digits with a comma between, and how many.
-pub fn numbers(field: &[u8], out: &mut [u64]) -> usize {
-    let mut i = 0;
-    while i < out.len() {
-        let digits = piece(field, i, b'0');
-        if digits.len() == 0 {
-            return i;
-        }
-        out[i] = hexadecimal(digits);
-        i += 1;
-    }
-    i
-}
-
-// The entries of a table in a field, decimal numbers with a comma between, and how many.
-pub fn entries(field: &[u8], out: &mut [u16]) -> usize {
-    let mut i = 0;
-    while i < out.len() {
-        let digits = piece(field, i, b'0');
-        if digits.len() == 0 {
-            return i;
-        }
-        out[i] = (number(digits) % 65536) as u16;
         i += 1;
     }
     i

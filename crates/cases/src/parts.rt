@@ -1,12 +1,10 @@
 // Parts of slices, for every count, and whether a part is as it was before a call.
 use std::num::wrapping_add_usize;
 
-// What a byte, a table entry and a 64-bit number hold before a call.
+// What a byte and a table entry hold before a call.
 pub const BYTE: u8 = 0xEE;
 
 pub const ENTRY: u16 = 0xA5A5;
-
-pub const NUMBER: u64 = 0xEEEEEEEEEEEEEEEE;
 
 // The first n bytes, or all.
 pub fn front(s: &[u8], n: usize) -> &[u8] {
@@ -42,14 +40,6 @@ pub fn entries(s: &[u16], n: usize) -> &[u16] {
 
 // The first n entries, or all, to be written.
 pub fn entries_mut(s: &mut [u16], n: usize) -> &mut [u16] {
-    if n < s.len() {
-        return &mut s[0..n];
-    }
-    s
-}
-
-// The first n numbers, or all, to be written.
-pub fn numbers_mut(s: &mut [u64], n: usize) -> &mut [u64] {
     if n < s.len() {
         return &mut s[0..n];
     }
@@ -95,36 +85,6 @@ pub fn entries_kept(s: &[u16], start: usize) -> bool {
     let mut i = start;
     while i < s.len() {
         if s[i] != ENTRY {
-            return false;
-        }
-        i += 1;
-    }
-    true
-}
-
-// Whether two tables have the same entries.
-pub fn same_entries(x: &[u16], y: &[u16]) -> bool {
-    if x.len() != y.len() {
-        return false;
-    }
-    let mut i = 0;
-    while i < x.len() {
-        if x[i] != y[i] {
-            return false;
-        }
-        i += 1;
-    }
-    true
-}
-
-// Whether the numbers are the same.
-pub fn same_numbers(x: &[u64], y: &[u64]) -> bool {
-    if x.len() != y.len() {
-        return false;
-    }
-    let mut i = 0;
-    while i < x.len() {
-        if x[i] != y[i] {
             return false;
         }
         i += 1;

@@ -12,19 +12,21 @@ use bitrows::carried;
 use bitrows::leaf_at;
 use bitrows::opened;
 use packed::checking::numbers_of;
+use refusals::LeafNumber;
 use refusals::NodeNumber;
 
 // The number that holds a leaf: before number j stand 64 j nodes less the carets that the summary counts.
-fn number_of_leaf(summary: &[u16], n: usize, leaf: usize) -> usize
+fn number_of_leaf(summary: &[u16], n: usize, leaf: LeafNumber) -> usize
     requires { ⌜ Few (now summary) n ⌝ }
     requires { ⌜ 0 < n ⌝ }
     requires { ⌜ n ≤ length (now summary) ⌝ }
     requires { ⌜ n ≤ 4294967295 ⌝ }
-    ensures { λ r. ⌜ HoldsLeaf (now (summary .entry)) n leaf r ⌝ }
+    ensures { λ r. ⌜ HoldsLeaf (now (summary .entry)) n (leaf .0) r ⌝ }
 {
+    let k = leaf.0 as usize;
     let mut j = 0;
     while j + 1 < n {
-        if leaf < NODES * (j + 1) - summary[j + 1] as usize {
+        if k < NODES * (j + 1) - summary[j + 1] as usize {
             return j;
         }
         j += 1;
@@ -33,13 +35,14 @@ fn number_of_leaf(summary: &[u16], n: usize, leaf: usize) -> usize
 }
 
 // The node of a leaf of a packed shape with so many nodes.
-pub fn leaf_node(numbers: &[u64], summary: &[u16], nodes: usize, leaf: usize) -> NodeNumber
-    requires { ⌜ HeldLeaf (now numbers) (now summary) nodes leaf ⌝ }
-    ensures { λ r. ⌜ LeafAt (shapeOf (now (numbers .entry)) nodes) leaf (r .0) ⌝ }
+pub fn leaf_node(numbers: &[u64], summary: &[u16], nodes: usize, leaf: LeafNumber) -> NodeNumber
+    requires { ⌜ HeldLeaf (now numbers) (now summary) nodes (leaf .0) ⌝ }
+    ensures { λ r. ⌜ LeafAt (shapeOf (now (numbers .entry)) nodes) (leaf .0) (r .0) ⌝ }
 {
     let j = number_of_leaf(summary, numbers_of(nodes), leaf);
     let before = NODES * j - summary[j] as usize;
-    NodeNumber(NODES * j + leaf_at(numbers[j], leaf - before))
+    let k = leaf.0 as usize;
+    NodeNumber(NODES * j + leaf_at(numbers[j], k - before))
 }
 
 // A number of the shape; there is none behind those used.

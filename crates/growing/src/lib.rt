@@ -31,7 +31,7 @@ pub fn grow_caret(numbers: &mut [u64], summary: &mut [u16], leaf: LeafNumber) ->
     if summary.len() < n {
         return Reply::Refused(Refusal::ShortBuffer);
     }
-    let node = inserting::leaf_node(numbers, summary, nodes, leaf.0 as usize);
+    let node = inserting::leaf_node(numbers, summary, nodes, leaf);
     inserting::insert(numbers, summary, nodes, node);
     Reply::Number(n)
 }

@@ -1,11 +1,12 @@
 // The largest shapes: right comb and left spine with the most carets, one fewer and one more.
 use crate::rows;
+use crate::values;
+use crate::values::NUMBER;
 use cases::counts;
 use cases::counts::Counts;
 use cases::parts;
 use cases::parts::BYTE;
 use cases::parts::ENTRY;
-use cases::parts::NUMBER;
 use thompson::Answer;
 use trees::MAX_CARETS;
 
@@ -82,8 +83,8 @@ fn grown(comb: bool, numbers: &[u64; NUMBERS], summary: &[u16; NUMBERS]) -> bool
     let answer = thompson::thompson_grow_caret(&mut grown, &mut sums, leaf as u64);
     answer.refusal == 0
         && answer.value == NUMBERS as u64
-        && parts::same_numbers(&grown, numbers)
-        && parts::same_entries(&sums, summary)
+        && values::same_numbers(&grown, numbers)
+        && values::same_entries(&sums, summary)
 }
 
 // Whether the bytes are those of the largest shape, and the byte behind is as it was.

@@ -10,6 +10,7 @@ use libc::STDIN_FILENO;
 
 mod bound;
 mod rows;
+mod values;
 
 // The most bytes of all rows.
 const INPUT: usize = 163840;

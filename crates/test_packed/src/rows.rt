@@ -1,10 +1,11 @@
 // A row: the call, and everything that was lent compared afterwards with what the row tells.
+use crate::values;
+use crate::values::NUMBER;
 use cases::fields;
 use cases::fields::field;
 use cases::parts;
 use cases::parts::BYTE;
 use cases::parts::ENTRY;
-use cases::parts::NUMBER;
 use thompson::Answer;
 
 // The most bytes of a shape and the most numbers of a row.
@@ -30,8 +31,8 @@ fn put_given(line: &[u8], shape: &mut [u8], numbers: &mut [u64], summary: &mut [
     }
     Lent {
         shape: fields::number(field(line, 3)) as usize,
-        numbers: fields::numbers(field(line, 1), numbers),
-        summary: fields::entries(field(line, 2), summary),
+        numbers: values::numbers(field(line, 1), numbers),
+        summary: values::entries(field(line, 2), summary),
     }
 }
 
@@ -59,8 +60,8 @@ fn told(line: &[u8], i: usize) -> &[u8] {
 fn put_told(line: &[u8], shape: &mut [u8], numbers: &mut [u64], summary: &mut [u16]) {
     put_given(line, shape, numbers, summary);
     fields::bytes(told(line, 6), shape);
-    fields::numbers(told(line, 7), numbers);
-    fields::entries(told(line, 8), summary);
+    values::numbers(told(line, 7), numbers);
+    values::entries(told(line, 8), summary);
 }
 
 // The call of a row, by the first letter of its name.
@@ -87,7 +88,7 @@ fn lend(line: &[u8], shape: &mut [u8], numbers: &mut [u64], summary: &mut [u16])
         parts::byte(line, 0),
         fields::number(field(line, 3)),
         parts::front_mut(shape, lent.shape),
-        parts::numbers_mut(numbers, lent.numbers),
+        values::numbers_mut(numbers, lent.numbers),
         parts::entries_mut(summary, lent.summary),
     )
 }
@@ -116,6 +117,6 @@ pub fn right(line: &[u8]) -> bool {
     put_told(line, &mut told_shape, &mut told_numbers, &mut told_summary);
     answered(line, answer)
         && check::same(&shape, &told_shape)
-        && parts::same_numbers(&numbers, &told_numbers)
-        && parts::same_entries(&summary, &told_summary)
+        && values::same_numbers(&numbers, &told_numbers)
+        && values::same_entries(&summary, &told_summary)
 }

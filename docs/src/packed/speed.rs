@@ -20,16 +20,17 @@ extern "C" {
     fn clock_gettime(clock: i32, seconds_and_nanoseconds: *mut [i64; 2]) -> i32;
 }
 
-// The numbers and the summary of a packed shape, as lent to a call.
+// The numbers and the summary of a packed shape, as lent to a call, and its bytes where it has any.
 #[derive(Clone, PartialEq)]
 struct Packed {
     numbers: Vec<u64>,
     summary: Vec<u16>,
+    shape: Vec<u8>,
 }
 
 impl Packed {
     fn empty(numbers: usize, summary: usize) -> Packed {
-        Packed { numbers: vec![0xeeee_eeee_eeee_eeee; numbers], summary: vec![0xa5a5; summary] }
+        Packed { numbers: vec![0xeeee_eeee_eeee_eeee; numbers], summary: vec![0xa5a5; summary], shape: vec![] }
     }
 
     // A shape packed, with so many more numbers and entries lent.
@@ -37,6 +38,7 @@ impl Packed {
         let n = shape.len().div_ceil(64) + more;
         let mut packed = Packed::empty(n, n);
         plain::pack_shape(shape, &mut packed.numbers, &mut packed.summary).expect("a tree");
+        packed.shape = shape.to_vec();
         packed
     }
 }
@@ -216,12 +218,22 @@ const GROWS: [Call; 2] = [
     |p| plain::grow_caret(&mut p.numbers, &mut p.summary, 0),
 ];
 
+const PACKS: [Call; 2] = [
+    |p| library::pack_shape(&p.shape, &mut p.numbers, &mut p.summary),
+    |p| plain::pack_shape(&p.shape, &mut p.numbers, &mut p.summary),
+];
+
+const UNPACKS: [Call; 2] = [
+    |p| library::unpack_shape(&p.numbers, &p.summary, &mut p.shape),
+    |p| plain::unpack_shape(&p.numbers, &p.summary, &mut p.shape),
+];
+
 fn measure(random: &mut Random) {
     println!("times of the thread in us a call, median of {RUNS} runs of {CALLS} calls, library and plain in turn");
     println!("end: subtree_end of node 0; before: carets_before of the last node; both of {CARETS} carets");
-    println!("grow: grow_caret at leaf 0 of {} carets", CARETS - 1);
+    println!("grow: grow_caret at leaf 0 of {} carets; pack, unpack: of {CARETS}", CARETS - 1);
     print!("{:<14}", "shape");
-    ["end", "before", "grow"].iter().for_each(|call| print!(" |{call:>9}{:>9}{:>7}", "plain", "ratio"));
+    ["end", "before", "grow", "pack", "unpack"].iter().for_each(|call| print!(" |{call:>9}{:>9}{:>7}", "plain", "ratio"));
     println!(" | grow to before");
     let random_shape = [shapes::random(CARETS, random), shapes::random(CARETS - 1, random)];
     let kinds = [
@@ -231,7 +243,8 @@ fn measure(random: &mut Random) {
     ];
     for (name, [largest, smaller]) in kinds {
         let [largest, smaller] = [Packed::new(&largest, 0), Packed::new(&smaller, 1)];
-        let times = [medians(ENDS, &largest), medians(BEFORES, &largest), medians(GROWS, &smaller)];
+        let [ends, befores, packs, unpacks] = [ENDS, BEFORES, PACKS, UNPACKS].map(|calls| medians(calls, &largest));
+        let times = [ends, befores, medians(GROWS, &smaller), packs, unpacks];
         print!("{name:<14}");
         times.iter().for_each(|[ours, plain]| print!(" |{ours:>9.3}{plain:>9.3}{:>7.3}", ours / plain));
         println!(" |{:>8.2}", times[2][0] / times[1][0]);

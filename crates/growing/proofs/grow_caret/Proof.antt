@@ -30,7 +30,7 @@ counted c = c .before .before .before .before .before
 
 -- Where there is room, seen from where the leaf is found.
 abbrev roomy : tie.After-leaf-node → tie.Else4
-roomy c = c .before .before .before .before
+roomy c = c .before .before .before
 
 -- What is checked.
 checked : (c : tie.After-checked)
@@ -134,12 +134,9 @@ returns-5 c =
     answer-short (checked at) (leaf at) (omega arith) (omega arith) _
     (inr (omega (arith, c .before .before .numbers-of .ensures))) refl
 
-cast-leaf-node : tie.Need-cast-leaf-node
-cast-leaf-node c = search needs
-
 leaf-node-requires : tie.Need-leaf-node-requires
 leaf-node-requires c κs =
-    let at = counted (c .before .before .before .before .before) in
+    let at = counted (c .before .before .before .before) in
     checked-leaf (checked at) (leaf at) (omega arith)
 
 insert-requires : tie.Need-insert-requires
@@ -191,7 +188,6 @@ grow-caret-spec =
     same-length-9
     same-length-10
     returns-5
-    cast-leaf-node
     leaf-node-requires
     insert-requires
     same-length-11

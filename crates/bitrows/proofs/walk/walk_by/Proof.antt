@@ -43,7 +43,8 @@ loop-less c =
 
 loop-again : tie.Need-loop-again Inv-loop μ-loop
 loop-again c =
-    let loop = c .before .before .before .before .before .before .before in
+    let test = c .before .before .before .before .before .before in
+    let loop = test .before in
     along-more _ (loop .loop .inv) (omega arith) (c .step .ensures .0)
 
 returns-2 : tie.Need-returns-2 Inv-loop μ-loop

@@ -13,7 +13,7 @@ start c = c .before .before .before .before
 
 -- The number found holds the leaf.
 holds : (c : tie.After-number-of-leaf)
-    → HoldsLeaf (start c .args .summary .now) (numbersOf (start c .args .nodes)) (start c .args .leaf)
+    → HoldsLeaf (start c .args .summary .now) (numbersOf (start c .args .nodes)) (start c .args .leaf .0)
     (c .number-of-leaf .result)
 holds c = holds-of (c .before .numbers-of .ensures) (c .number-of-leaf .ensures)
 
@@ -38,8 +38,11 @@ cast-before c = record { fits = omega (arith, c .shared-slice-known3 .given (c .
 sub-before : tie.Need-sub-before
 sub-before c = held-few (start (c .before) .pre .held) _ (holds (c .before) .inside)
 
-mul-t7 : tie.Need-mul-t7
-mul-t7 c = search needs
+cast-k : tie.Need-cast-k
+cast-k c = search needs
+
+mul-t8 : tie.Need-mul-t8
+mul-t8 c = search needs
 
 mul-leaf-at : tie.Need-mul-leaf-at
 mul-leaf-at c = search needs
@@ -53,12 +56,12 @@ sub-leaf-at c = search needs
 leaf-at-requires : tie.Need-leaf-at-requires
 leaf-at-requires c κs = search needs
 
-add-t15 : tie.Need-add-t15
-add-t15 c = search needs
+add-t16 : tie.Need-add-t16
+add-t16 c = search needs
 
 returns : tie.Need-returns
 returns c =
-    let found = c .before .before .before in
+    let found = c .before .before .before .before in
     leaf-found (start found .pre) (holds found) (c .leaf-at .ensures)
 
 pub leaf-node-spec : {M : Type 1} → statement M
@@ -72,10 +75,11 @@ leaf-node-spec =
     shared-slice-read-before
     cast-before
     sub-before
-    mul-t7
+    cast-k
+    mul-t8
     mul-leaf-at
     shared-slice-read-leaf-at
     sub-leaf-at
     leaf-at-requires
-    add-t15
+    add-t16
     returns)

@@ -1,13 +1,13 @@
--- `same_numbers` is safe. Assumes nothing.
+-- `same_entries` is safe. Assumes nothing.
 use mathlib.Core.Path.{_≡_}
 use Prim.Native.Nat.{_-_}
 use lib.ListN.{length}
 use native.Mathlib.Omega.{arith}
-use Rattle.cases.proofs.parts.same_numbers.Statement.{statement}
-use Rattle.cases.proofs.parts.same_numbers.Tie as tie
+use Rattle.test_packed.proofs.values.same_entries.Statement.{statement}
+use Rattle.test_packed.proofs.values.same_entries.Tie as tie
 
-pub same-numbers-spec : {M : Type 1} → statement M
-same-numbers-spec =
+pub same-entries-spec : {M : Type 1} → statement M
+same-entries-spec =
     tie.close
     (tie.spec
     (λ x y i₀ i. length x ≡ length y)

@@ -1,13 +1,13 @@
--- `numbers` is safe. Assumes nothing.
+-- `entries` is safe. Assumes nothing.
 use mathlib.Core.Path.{_≡_}
 use Prim.Native.Nat.{_-_}
 use lib.ListN.{length, length-set}
 use native.Mathlib.Omega.{arith}
-use Rattle.cases.proofs.fields.numbers.Statement.{statement}
-use Rattle.cases.proofs.fields.numbers.Tie as tie
+use Rattle.test_packed.proofs.values.entries.Statement.{statement}
+use Rattle.test_packed.proofs.values.entries.Tie as tie
 
-pub numbers-spec : {M : Type 1} → statement M
-numbers-spec =
+pub entries-spec : {M : Type 1} → statement M
+entries-spec =
     tie.close
     (tie.spec
     (λ field out₀ i₀ out i. length out ≡ length out₀)
@@ -17,6 +17,7 @@ numbers-spec =
     (λ c. omega arith)
     (λ c. tt)
     (λ c κs. tt)
+    (λ c. omega arith)
     (λ c. omega arith)
     (λ c. omega arith)
     (λ c. omega arith)

@@ -2,8 +2,8 @@
 use Prim.Native.Nat.{_-_}
 use lib.ListN.{length}
 use native.Mathlib.Omega.{arith}
-use Rattle.cases.proofs.fields.hexadecimal.Statement.{statement}
-use Rattle.cases.proofs.fields.hexadecimal.Tie as tie
+use Rattle.test_packed.proofs.values.hexadecimal.Statement.{statement}
+use Rattle.test_packed.proofs.values.hexadecimal.Tie as tie
 
 pub hexadecimal-spec : {M : Type 1} → statement M
 hexadecimal-spec =

@@ -1,13 +1,13 @@
--- `entries` is safe. Assumes nothing.
+-- `numbers` is safe. Assumes nothing.
 use mathlib.Core.Path.{_≡_}
 use Prim.Native.Nat.{_-_}
 use lib.ListN.{length, length-set}
 use native.Mathlib.Omega.{arith}
-use Rattle.cases.proofs.fields.entries.Statement.{statement}
-use Rattle.cases.proofs.fields.entries.Tie as tie
+use Rattle.test_packed.proofs.values.numbers.Statement.{statement}
+use Rattle.test_packed.proofs.values.numbers.Tie as tie
 
-pub entries-spec : {M : Type 1} → statement M
-entries-spec =
+pub numbers-spec : {M : Type 1} → statement M
+numbers-spec =
     tie.close
     (tie.spec
     (λ field out₀ i₀ out i. length out ≡ length out₀)
@@ -17,7 +17,6 @@ entries-spec =
     (λ c. omega arith)
     (λ c. tt)
     (λ c κs. tt)
-    (λ c. omega arith)
     (λ c. omega arith)
     (λ c. omega arith)
     (λ c. omega arith)
