@@ -8,9 +8,9 @@
 
 static const uint8_t identity[6] = {1, 0, 0, 2, 0, 0};
 static char text[THOMPSON_TEXT(THOMPSON_LIMIT)];
-static uint8_t word[THOMPSON_LIMIT + 1], record[THOMPSON_RECORD(THOMPSON_LIMIT)], record2[6];
+static uint8_t word[THOMPSON_LIMIT + 1], record[THOMPSON_RECORD(THOMPSON_LIMIT)], record2[sizeof record];
 static uint16_t b_table[THOMPSON_TABLE(THOMPSON_LIMIT)], a_table[THOMPSON_TABLE(THOMPSON_LIMIT)];
-static uint16_t b_table2[1], a_table2[1];
+static uint16_t b_table2[THOMPSON_FULL_TABLE], a_table2[THOMPSON_FULL_TABLE];
 static uint8_t t_minus[THOMPSON_SHAPE(THOMPSON_CARETS)], t_plus[THOMPSON_SHAPE(THOMPSON_CARETS)];
 static uint8_t filed[THOMPSON_REGISTER_MOST + 1], records[THOMPSON_LIST(2, 2 * THOMPSON_LIMIT + 1)];
 static uint64_t numbers[THOMPSON_NUMBERS(THOMPSON_CARETS)];
@@ -45,7 +45,7 @@ static void null_pointers(void) {
     row("record to label length, no record", thompson_record_to_label_length(0, 0), 3, 0);
     row("two words, no words",
         thompson_same_element(0, 0, b_table, 1, a_table, 1, record, 6, 0, 0, b_table2, 1, a_table2, 1, record2, 6), 0,
-        1);
+        THOMPSON_SAME);
     row("two words, nothing for the second",
         thompson_same_element(0, 0, b_table, 1, a_table, 1, record, 6, 0, 0, 0, 0, 0, 0, 0, 0), 256 + 6, 0);
 }
@@ -94,6 +94,29 @@ static void sizes(void) {
     row("the first buffer one byte short", pair(n, 1, 0), 7, 0);
     row("the second buffer one byte short", pair(n, 0, 1), 7, 0);
     row("x_LIMIT alone, spelled", thompson_record_to_word(record, put_power(1), word, THOMPSON_LIMIT), 8, 0);
+}
+
+/* Two words of n letters each, the first all one letter and the second all another. */
+static thompson_answer verdict(size_t n, char first, char second) {
+    static uint8_t word2[THOMPSON_LIMIT + 1];
+    memset(word, first, sizeof word);
+    memset(word2, second, sizeof word2);
+    return thompson_same_element(word, n, b_table, THOMPSON_FULL_TABLE, a_table, THOMPSON_FULL_TABLE, record,
+                                 sizeof record, word2, n, b_table2, THOMPSON_FULL_TABLE, a_table2, THOMPSON_FULL_TABLE,
+                                 record2, sizeof record2);
+}
+
+/* The three verdicts, and the limit. */
+static void verdicts(void) {
+    printf("two words: refusal, value\n");
+    row("a and a", verdict(1, 'a', 'a'), 0, THOMPSON_SAME);
+    row("a and A", verdict(1, 'a', 'A'), 0, THOMPSON_INVERSE);
+    row("a and b", verdict(1, 'a', 'b'), 0, THOMPSON_DIFFERENT);
+    row("a and B", verdict(1, 'a', 'B'), 0, THOMPSON_DIFFERENT);
+    row("no letters", verdict(0, 'a', 'A'), 0, THOMPSON_SAME);
+    row("THOMPSON_LIMIT letters a, and A", verdict(THOMPSON_LIMIT, 'a', 'A'), 0, THOMPSON_INVERSE);
+    row("one letter more", verdict(THOMPSON_LIMIT + 1, 'a', 'A'), 1, THOMPSON_LIMIT);
+    row("the second no letter", verdict(1, 'a', 'x'), 256 + 2, 0);
 }
 
 /* A text whose exponents' sizes sum to n, with tables and a buffer that are so many elements short. */
@@ -193,6 +216,7 @@ static thompson_filing file(size_t n, uint16_t holder, size_t bytes) {
 /* The sizes of the header, for registers. */
 static void register_sizes(void) {
     const size_t entry = THOMPSON_ENTRY(10), one = THOMPSON_REGISTER_FIRST + entry;
+    const uint8_t greater[10] = {1, 0, 4, 0, 0, 0, 1, 2, 0, 0};
     printf("registers: refusal, value, and for a filing whether the element was present\n");
     memset(word, 'a', sizeof word);
     row("register check, no register", thompson_check_register(0, 0), 12, 0);
@@ -204,6 +228,13 @@ static void register_sizes(void) {
     filing_row("no room for the entry of one power", file(1, 9, one - 1), 14, 0, 0);
     filing_row("room for it and no more", file(1, 9, one), 0, 1, 0);
     filing_row("the same again", file(1, 8, one), 0, 1, 1);
+    memset(word, 'A', 1);
+    filing_row("its inverse", file(1, 8, one), 0, 1, 1);
+    memset(word, 'a', 1);
+    memcpy(filed + one - sizeof greater, greater, sizeof greater);
+    row("the greater record in its entry", thompson_check_register(filed, one), 12, 0);
+    put_fresh(one);
+    file(1, 9, one);
     row("live entries of its holder", thompson_live_entries(filed, one, 9), 0, 1);
     row("live entries of the other", thompson_live_entries(filed, one, 8), 0, 0);
     put_fresh(THOMPSON_REGISTER_MOST + 1);
@@ -294,6 +325,7 @@ static void packed_above(void) {
 int main(void) {
     null_pointers();
     sizes();
+    verdicts();
     text_sizes();
     list_sizes();
     register_sizes();

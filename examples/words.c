@@ -1,7 +1,8 @@
 /* A program in C over libthompson.a: for each word on the command line its record, its tree pair, the tree T+ packed
    with its carets, its end and a caret grown at its first leaf, its length and the same by Table 1, a word that the
    record spells, its text in subscript notation, and its entry in a register of the words before it, each word with a
-   holder of its own; then the records of all words in one call.
+   holder of its own; then whether each word and the one before it are the same, inverse or different, and the records
+   of all words in one call.
        words abA ba */
 #include "thompson.h"
 
@@ -87,6 +88,24 @@ static void print_word(const char *word, uint16_t holder) {
         printf("  entry %" PRIu64 " %s\n", filing.value, filing.present ? "present" : "new");
 }
 
+/* Whether two words are the same, inverse or different. */
+static void print_verdict(const char *first, const char *second) {
+    static const char *const names[] = {
+        [THOMPSON_DIFFERENT] = "different", [THOMPSON_SAME] = "same", [THOMPSON_INVERSE] = "inverse"};
+    static uint16_t b_table2[THOMPSON_FULL_TABLE], a_table2[THOMPSON_FULL_TABLE];
+    static uint8_t record2[THOMPSON_RECORD(THOMPSON_LIMIT)];
+    thompson_answer verdict = thompson_same_element(
+        (const uint8_t *)first, strlen(first), b_table, THOMPSON_FULL_TABLE, a_table, THOMPSON_FULL_TABLE, record,
+        sizeof record, (const uint8_t *)second, strlen(second), b_table2, THOMPSON_FULL_TABLE, a_table2,
+        THOMPSON_FULL_TABLE, record2, sizeof record2);
+    printf("  %s, %s: ", first, second);
+    if (verdict.refusal == THOMPSON_ACCEPTED)
+        printf("%s\n", names[verdict.value]);
+    else
+        printf("the %s is refused %" PRIu64 ", place %" PRIu64 "\n", verdict.refusal < 256 ? "first" : "second",
+               verdict.refusal % 256, verdict.value);
+}
+
 /* The bytes of a field, with its tag and its length. */
 static size_t field_size(const uint8_t *field) { return 3 + 256 * (size_t)field[1] + field[2]; }
 
@@ -123,6 +142,8 @@ static void print_list(char **words, size_t count) {
 
 int main(int argc, char **argv) {
     for (int i = 1; i < argc; i++) print_word(argv[i], (uint16_t)i);
+    if (argc > 2) printf("verdicts\n");
+    for (int i = 2; i < argc; i++) print_verdict(argv[i - 1], argv[i]);
     if (argc > 1) print_list(argv + 1, (size_t)argc - 1);
     return 0;
 }

@@ -1,8 +1,9 @@
 // A program in Rust over libthompson.a: for each word on the command line its record, its tree pair, the tree T+ packed
 // with its carets, its end and a caret grown at its first leaf, its length and the same by Table 1, a word that the
 // record spells, its text in subscript notation, and its entry in a register of the words before it, each word with a
-// holder of its own; then the records of all words in one call. The module `thompson` is a safe face of the calls: a
-// Rust slice is a valid pointer with its length, and a `&mut` slice overlaps nothing else, which is all that they ask.
+// holder of its own; then whether each word and the one before it are the same, inverse or different, and the records
+// of all words in one call. The module `thompson` is a safe face of the calls: a Rust slice is a valid pointer with its
+// length, and a `&mut` slice overlaps nothing else, which is all that they ask.
 //     words abA ba
 
 mod thompson {
@@ -31,6 +32,19 @@ mod thompson {
     pub struct Refused {
         pub number: u64,
         pub place: u64,
+    }
+
+    // The verdict on two words.
+    pub enum Verdict {
+        Same,
+        Inverse,
+        Different,
+    }
+
+    // Why two words have none: the first or the second is refused.
+    pub enum Unjudged {
+        First(Refused),
+        Second(Refused),
     }
 
     // The two trees of a pair, a byte for each node.
@@ -79,6 +93,24 @@ mod thompson {
         ) -> Answer;
         fn thompson_record_to_length(record: *const u8, record_size: usize) -> Answer;
         fn thompson_record_to_label_length(record: *const u8, record_size: usize) -> Answer;
+        fn thompson_same_element(
+            word1: *const u8,
+            letters1: usize,
+            b_table1: *mut u16,
+            b_entries1: usize,
+            a_table1: *mut u16,
+            a_entries1: usize,
+            record1: *mut u8,
+            record_size1: usize,
+            word2: *const u8,
+            letters2: usize,
+            b_table2: *mut u16,
+            b_entries2: usize,
+            a_table2: *mut u16,
+            a_entries2: usize,
+            record2: *mut u8,
+            record_size2: usize,
+        ) -> Answer;
         fn thompson_enter_word(
             word: *const u8,
             letters: usize,
@@ -301,6 +333,41 @@ mod thompson {
         }
     }
 
+    // Whether two words are the same element, inverse elements, or neither.
+    pub fn verdict(first: &[u8], second: &[u8]) -> Result<Verdict, Unjudged> {
+        let (mut b1, mut b2) = (vec![0u16; first.len() + 1], vec![0u16; second.len() + 1]);
+        let (mut a1, mut a2) = (vec![0u16; first.len() + 1], vec![0u16; second.len() + 1]);
+        let (mut record1, mut record2) = (vec![0u8; 6 + 4 * first.len()], vec![0u8; 6 + 4 * second.len()]);
+        let answer = unsafe {
+            thompson_same_element(
+                first.as_ptr(),
+                first.len(),
+                b1.as_mut_ptr(),
+                b1.len(),
+                a1.as_mut_ptr(),
+                a1.len(),
+                record1.as_mut_ptr(),
+                record1.len(),
+                second.as_ptr(),
+                second.len(),
+                b2.as_mut_ptr(),
+                b2.len(),
+                a2.as_mut_ptr(),
+                a2.len(),
+                record2.as_mut_ptr(),
+                record2.len(),
+            )
+        };
+        let refused = |number| Refused { number, place: answer.value };
+        match (answer.refusal, answer.value) {
+            (0, 1) => Ok(Verdict::Same),
+            (0, 2) => Ok(Verdict::Inverse),
+            (0, _) => Ok(Verdict::Different),
+            (number @ 1..=255, _) => Err(Unjudged::First(refused(number))),
+            (number, _) => Err(Unjudged::Second(refused(number - 256))),
+        }
+    }
+
     // A fresh register of n bytes, at least 7.
     pub fn fresh_register(n: usize) -> Vec<u8> {
         let mut register = vec![0u8; n];
@@ -421,6 +488,22 @@ fn print_word(word: &[u8], holder: u16, register: &mut [u8]) {
     }
 }
 
+// Whether each word and the one before it are the same, inverse or different.
+fn print_verdicts(words: &[Vec<u8>]) {
+    use thompson::{Unjudged, Verdict};
+    println!("verdicts");
+    for pair in words.windows(2) {
+        let verdict = match thompson::verdict(&pair[0], &pair[1]) {
+            Ok(Verdict::Same) => "same".to_string(),
+            Ok(Verdict::Inverse) => "inverse".to_string(),
+            Ok(Verdict::Different) => "different".to_string(),
+            Err(Unjudged::First(r)) => format!("the first is refused {}, place {}", r.number, r.place),
+            Err(Unjudged::Second(r)) => format!("the second is refused {}, place {}", r.number, r.place),
+        };
+        print_bytes(" ", &[&pair[0], &b", "[..], &pair[1], b": ", verdict.as_bytes()].concat());
+    }
+}
+
 fn print_list(words: &[Vec<u8>]) {
     println!("list");
     let list: Vec<u8> = words.iter().flat_map(|word| [word, &b"\n"[..]].concat()).collect();
@@ -442,6 +525,9 @@ fn main() {
     let words: Vec<Vec<u8>> = std::env::args_os().skip(1).map(|word| word.into_vec()).collect();
     for (word, holder) in words.iter().zip(1..) {
         print_word(word, holder, &mut register);
+    }
+    if words.len() > 1 {
+        print_verdicts(&words);
     }
     if !words.is_empty() {
         print_list(&words);

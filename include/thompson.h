@@ -38,10 +38,11 @@
    numbers before it. Numbers behind the last node's, and their entries, mean nothing. Nodes and leaves are counted from
    0, in the order in which the shape is written.
 
-   A register is one buffer of at most THOMPSON_REGISTER_MOST bytes, in which each element has one entry, numbered in
-   the order of first filing. It begins with the last entry number given: a fresh one has the bytes 10 00 04 00 00 00 00
-   (hexadecimal), and then ends or has a byte 00. A holder, any 16-bit number, has at most four entries. Each call
-   checks all of the register that it is handed. */
+   A register is one buffer of at most THOMPSON_REGISTER_MOST bytes, in which an element and its inverse share one
+   entry, numbered in the order of first filing; it stores the smaller, in byte order, of the record and the record with
+   its two sides exchanged, the body of its second field in the first and the other way round. It begins with the last
+   entry number given: a fresh one has the bytes 10 00 04 00 00 00 00 (hexadecimal), and then ends or has a byte 00. A
+   holder, any 16-bit number, has at most four entries. Each call checks all of the register that it is handed. */
 #ifndef THOMPSON_H
 #define THOMPSON_H
 
@@ -101,11 +102,19 @@ enum {
     THOMPSON_MISSPELLED = 9,       /* a misspelled token, or an index above the limit; place: the offset of the first */
     THOMPSON_LARGE_EXPONENTS = 10, /* the sizes of the exponents sum above the limit; place 0 */
     THOMPSON_HIGH_INDEX = 11,      /* the reduced form has an index above the limit; place 0 */
-    THOMPSON_BAD_REGISTER = 12,    /* no well-formed register, or too long a one; place 0 */
+    THOMPSON_BAD_REGISTER = 12,    /* no well-formed register, or too long a one; place 0. A register that stores the
+                                      greater of a record and its exchange, as before request [7], is none */
     THOMPSON_HOLDER_FULL = 13,     /* the holder has four entries; place 0 */
     THOMPSON_REGISTER_FULL = 14,   /* the entry does not fit, or its number would pass 4,294,967,295; place 0 */
     THOMPSON_NOT_TREE = 15         /* a shape that is no tree or has or would have more than THOMPSON_CARETS carets, a
                                       wrong or too short summary, or no such node or leaf; place 0 */
+};
+
+/* The verdict on two words. */
+enum {
+    THOMPSON_DIFFERENT = 0, /* neither of the following */
+    THOMPSON_SAME = 1,      /* one element */
+    THOMPSON_INVERSE = 2    /* two elements, each the inverse of the other */
 };
 
 /* A refusal's number and place, or 0 and the call's value. */
@@ -189,9 +198,11 @@ thompson_answer thompson_record_to_length(const uint8_t *record, size_t record_s
    Refusals, in this order: 3, 4, 5. */
 thompson_answer thompson_record_to_label_length(const uint8_t *record, size_t record_size);
 
-/* Two words: the same element or not.
+/* Two words: the same element, inverse elements, or neither.
    Lent, for each word: what thompson_word_to_record takes; it is left as that call leaves it.
-   Value: 1 where the words are the same element, 0 where they are not.
+   Value: THOMPSON_SAME, 1, where the words are the same element; THOMPSON_INVERSE, 2, where they are not, and the first
+   is the inverse of the second; THOMPSON_DIFFERENT, 0, where neither is so. The identity is its own inverse, and the
+   only element that is: two words for it are the same.
    Refusals: those of the first word, then those of the second, with 256 added to the number. After either, everything
    that was lent with both words is as it was. */
 thompson_answer thompson_same_element(const uint8_t *word1, size_t letters1, uint16_t *b_table1, size_t b_entries1,
@@ -199,12 +210,14 @@ thompson_answer thompson_same_element(const uint8_t *word1, size_t letters1, uin
                                       const uint8_t *word2, size_t letters2, uint16_t *b_table2, size_t b_entries2,
                                       uint16_t *a_table2, size_t a_entries2, uint8_t *record2, size_t record_size2);
 
-/* A word filed into a register under a holder: the entry that holds the word's element, whoever holds it, or a new one.
-   Lent: what thompson_word_to_record takes, which an answer leaves as that call does; the register.
+/* A word filed into a register under a holder: the entry that holds the word's element or its inverse, whoever holds
+   it, or a new one.
+   Lent: what thompson_word_to_record takes, which an answer leaves as that call does, with the word's own record,
+   whichever record the register stores; the register.
    Value: the entry's number. A new entry has one above the last number given; it stands behind the last entry, with a
    byte 00 behind it if a byte is free, and the first field has its number. Every other byte of the register is as it
-   was; where the element has an entry already, every byte is.
-   Refusals, in this order: 1, 2, 6, 7, 12; then, where no entry holds the element, 13, 14. */
+   was; where the element or its inverse has an entry already, every byte is.
+   Refusals, in this order: 1, 2, 6, 7, 12; then, where no entry holds either, 13, 14. */
 thompson_filing thompson_enter_word(const uint8_t *word, size_t letters, uint16_t *b_table, size_t b_entries,
                                     uint16_t *a_table, size_t a_entries, uint8_t *record, size_t record_size,
                                     uint16_t holder, uint8_t *register_bytes, size_t register_size);

@@ -120,18 +120,16 @@ verdict {u} {v} {m} {m′} {k} {k′} {r} h a =
     let two = demand1 .word-to-record v k k′ (own .1 .0) (own .1 .1) .0 .accepted-just-when .1 (none .1) in
     let w = demand2 .is-word u m m′ (own .0 .0) (one .0) (own .0 .1) (one .1) in
     let x = demand2 .is-word v k k′ (own .1 .0) (two .0) (own .1 .1) (two .1) in
-    let decides =
-    two-decided u v m m′ k k′ r h (w .0) (x .0)
-    (judged-accepted u m (w .0) (no-refusal↔none u m .1 (none .0)) (w .1))
-    (judged-accepted v k (x .0) (no-refusal↔none v k .1 (none .1)) (x .1)) in
     record {
       first = w .0;
       second = x .0;
       bytes = (w .1, x .1);
       first-left = (one .0, call-keeps-map (own .0 .1) (one .1) (w .1));
       second-left = (two .0, call-keeps-map (own .1 .1) (two .1) (x .1));
-      same-just-when = decides .0;
-      different-just-when = decides .1;
+      decides =
+          two-decided u v m m′ k k′ r h (w .0) (x .0)
+          (judged-accepted u m (w .0) (no-refusal↔none u m .1 (none .0)) (w .1))
+          (judged-accepted v k (x .0) (no-refusal↔none v k .1 (none .1)) (x .1));
     }
 
 same-element : {u v : List ℕ} {m m′ k k′ : Memory} {r : Comparison} → Compared u m m′ v k k′ r

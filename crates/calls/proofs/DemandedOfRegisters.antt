@@ -28,7 +28,7 @@ use Rattle.claims.proofs.RegisterRefusals.{read↔refusal}
 use Rattle.claims.proofs.Demands.{demand1}
 use Rattle.claims.proofs.Exports.{exports-answer-as-calls}
 use Rattle.claims.proofs.Registers.{registers-are-read, charges}
-use Rattle.claims.proofs.EnterCalls.{enters-words, only-new-bytes}
+use Rattle.claims.proofs.EnterCalls.{enters-words, only-new-bytes, stored-is-smaller}
 use Rattle.calls.specs.DemandedOfRegisters.{CheckRegister, EnterWord, LiveEntries, DemandedOfRegisters}
 use Rattle.calls.proofs.Always.{always-below}
 use Rattle.calls.proofs.Calls.{calls, exports}
@@ -68,6 +68,9 @@ enter-word {u} {m} {m′} {h} {s} {s′} {r} c =
       only-new = λ k w q e b f.
           let x = answer-of r (newEntry k) e in
           only-new-bytes u m m′ h s s′ r (x .0) k w q c (x .1) (x .2) b f;
+      stores = λ k w q e b f.
+          let x = answer-of r (newEntry k) e in
+          stored-is-smaller u m m′ h s s′ r (x .0) k w q c (x .1) (x .2) b f;
     }
 
 -- The live count of a holder, by what is read.

@@ -13,7 +13,7 @@ use Rattle.claims.specs.Forms.{FormKeepsMap, EqualFormsAreJoined, EqualFormsAre
 use Rattle.claims.specs.Forms.{TheFormOfWord, FormIsSmall}
 use Rattle.claims.specs.Sentences.{InverseUndoes, EndsFixed, ZerosIgnored, GeneratorsConjugate, PresentationsAgree}
 use Rattle.claims.specs.Sentences.{JoinedIsOneMap, StepKeepsElement, StepCanBeTaken, ReducedIsNoStep, StepsEnd}
-use Rattle.claims.specs.Sentences.{LettersAtEnds, BehindIsInFront, InverseExchanges}
+use Rattle.claims.specs.Sentences.{LettersAtEnds, BehindIsInFront, InverseExchanges, OnlyIdentityIsItsInverse}
 use Rattle.claims.specs.Trees.{LeavesAndCarets, PairOfForm, EveryPairIsForm, NoRedundantCaret, PairIsMap, ShapesOfTrees}
 use Rattle.claims.specs.Trees.{KindsOfCarets, SymmetricWeights, LengthIsSum}
 use Rattle.claims.specs.Lengths.{LengthIsLeast, LetterChangesByOne, SomeLetterLowers, ZeroIsIdentity, LengthIsReached}
@@ -22,10 +22,11 @@ use Rattle.claims.specs.Lengths.{OneReading, LabelsOfCarets, TableOne, LabelLen
 use Rattle.claims.specs.Spellings.{DeletingEnds, FormsAreSpelled, SpellingHasLength}
 use Rattle.claims.specs.Texts.{DecimalsAreNumerals, TextsAreTokens, TextsAreLetters}
 use Rattle.claims.specs.Lists.{ListIsCalls, SomeCalls, LastWordFills, ListRecordsJoined}
-use Rattle.claims.specs.Registers.{RegistersAreRead, EntersWords, OnlyNewBytes, History, SameEntry, Charges}
+use Rattle.claims.specs.Registers.{RegistersAreRead, EntersWords, OnlyNewBytes, StoredIsSmaller}
+use Rattle.claims.specs.Registers.{History, SameEntry, Charges}
 use Rattle.claims.specs.Packed.{ShapesGiven, PackUnpack, PackedIsTree, GrownIsPacked, BothByShape}
 use Rattle.claims.specs.Receipts.{LinesOfBytes, LinesInParts, ServesMetLines, CutKeepsReceipt, ReceiptsOfInput}
-use Rattle.worked.specs.Worked.{Worked, WorkedForms, WorkedRegisters}
+use Rattle.worked.specs.Worked.{Worked, WorkedForms, WorkedRegisters, WorkedVerdicts}
 use Rattle.worked.specs.Shapes.{WorkedShapes}
 
 pub record Claims : Type 2 where
@@ -74,6 +75,7 @@ pub record Claims : Type 2 where
   pub letters-at-ends : LettersAtEnds
   pub behind-is-in-front : BehindIsInFront
   pub inverse-exchanges : InverseExchanges
+  pub only-identity-is-its-inverse : OnlyIdentityIsItsInverse
   -- Trees, shapes, carets and weights: claims, Trees.
   pub leaves-and-carets : LeavesAndCarets
   pub pair-of-form : PairOfForm
@@ -116,6 +118,7 @@ pub record Claims : Type 2 where
   pub registers-are-read : RegistersAreRead
   pub enters-words : EntersWords
   pub only-new-bytes : OnlyNewBytes
+  pub stored-is-smaller : StoredIsSmaller
   pub history : History
   pub same-entry : SameEntry
   pub charges : Charges
@@ -135,4 +138,5 @@ pub record Claims : Type 2 where
   pub worked : Worked
   pub worked-forms : WorkedForms
   pub worked-registers : WorkedRegisters
+  pub worked-verdicts : WorkedVerdicts
   pub worked-shapes : WorkedShapes

@@ -10,7 +10,7 @@
 -- The names used, what each is, and the crate and file of its specs that define it:
 --     now x                       the elements of the slice behind the reference x                the kit, Denote/Ref
 --     replyOf, verdictOf          an answer as accepted n, or as refused with number and place    refusals, Outcomes
---     decisionOf                  an answer as same, different, or a refusal of word 0 or 1   comparisons, Comparing
+--     decisionOf                  same, inverse, different, or a refusal of word 0 or 1       comparisons, Comparing
 --     outcomeOf, decisionIn       the same of the two numbers that an export answers              thompson, Codes
 --     Refuses o R                 each refusal is o just when its condition R holds               claims, Answers
 --     RefusesWords d R S          the same of two words, the first word's refusals first          claims, Answers

@@ -1,6 +1,6 @@
--- What 02, [3], demands of the calls on a register, said of the functions themselves and of the exports for C and Rust,
--- with no contract in it, as Demanded.antt says it of the others; what a run of filings comes to is claimed over the
--- contract of `enter_word` (claims, Registers: `History`, `SameEntry`), which Calls.antt ties to the function.
+-- What 02, [3] and [7], demand of the calls on a register, said of the functions themselves and of the exports for C
+-- and Rust, with no contract in it, as Demanded.antt says it of the others; what a run of filings comes to is claimed
+-- over the contract of `enter_word` (claims, Registers: `History`, `SameEntry`), which Calls.antt ties to the function.
 -- proofs/DemandedOfRegisters.antt has the proofs.
 -- Letters: u bytes lent as a word; m memory lent with it, b, a and e its parts; h a holder; s the register's bytes; r
 -- an answer, o an outcome; a ′ marks the same at exit.
@@ -11,6 +11,7 @@
 --     IsRegister s                the bytes are some register                                       claims, Registers
 --     WellFormed s q              the bytes are the register q                                  registers, WellFormed
 --     EnteredAs, OnlyNew, Charged     what a filing answers and leaves, writes, charges             claims, Registers
+--     StoredSmaller               the record that a new entry stores, beside the word's own         claims, Registers
 --     live h es                   how many of the entries are the holder's                         registers, Reading
 -- Assumes nothing.
 use mathlib.Core.Path.{_≡_}
@@ -30,7 +31,8 @@ use Rattle.registers.specs.WellFormed.{WellFormed}
 use Rattle.updates.specs.Entering.{Reply, newEntry, Answer, replyNumber, storedForm, enteredOf, repliedOf}
 use Rattle.thompson.specs.Codes.{outcomeOf, liveOf, replyIn}
 use Rattle.claims.specs.Answers.{Refuses, IsRefused, IsAccepted}
-use Rattle.claims.specs.Registers.{IsRegister, RegisterRefusal, EnterRefusal, EnteredAs, OnlyNew, Charged}
+use Rattle.claims.specs.Registers.{IsRegister, RegisterRefusal, EnterRefusal, EnteredAs, OnlyNew, StoredSmaller}
+use Rattle.claims.specs.Registers.{Charged}
 use Rattle.calls.specs.Always.{Always}
 use Rattle.registers.proofs.check_register as check-register
 use Rattle.updates.proofs.enter_word as enter-word
@@ -51,6 +53,8 @@ pub record EnterWord (u : List ℕ) (m m′ : Memory) (h : ℕ) (s s′ : List �
   pub gives : (y : Reply) → o ≡ accepted y → EnteredAs u m m′ h s s′ y
   pub only-new : (k : ℕ) (w : Word) (q : Register) → o ≡ accepted (newEntry k) → u ≡ bytesOf w → WellFormed s q
       → OnlyNew s s′ k h (length (registerBytes q)) (encode (storedForm w))
+  pub stores : (k : ℕ) (w : Word) (q : Register) → o ≡ accepted (newEntry k) → u ≡ bytesOf w → WellFormed s q
+      → StoredSmaller m m′ s′ (length (registerBytes q)) w
 
 -- The live entries of a holder; nothing is lent to write to.
 pub record LiveEntries (s : List ℕ) (h : ℕ) (o : Outcome ℕ) : Type 0 where

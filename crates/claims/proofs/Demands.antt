@@ -17,7 +17,7 @@ use Rattle.records.specs.Reading.{decode}
 use Rattle.records.specs.Checking.{Checked}
 use Rattle.geodesics.proofs.LabelSums.{form-labels}
 use Rattle.words.specs.Recording.{encodeWord, judgedWith, Recorded}
-use Rattle.comparisons.specs.Comparing.{decisionOf, same, different}
+use Rattle.comparisons.specs.Comparing.{decisionOf}
 use Rattle.registers.specs.Reading.{readRegister}
 use Rattle.tokens.proofs.Texts.{text-injective}
 use Rattle.thompson.specs.Codes.{readOutcome, outcomeOf}
@@ -27,6 +27,7 @@ use Rattle.claims.specs.Answers.{IsRefused, IsAccepted, Refuses}
 use Rattle.claims.specs.Registers.{RegisterRefusal}
 use Rattle.claims.specs.Calls.{CallOn, byWord, byText, recordBy, MemoryCall, SpellingCall, spelledBy, TwoWordCall}
 use Rattle.claims.specs.Calls.{ExportedMemoryCall, ExportedCall, exportedWord, exportedText, exportedRecord}
+use Rattle.claims.specs.Given.{Decides}
 use Rattle.claims.specs.Demands.{Demand1, Demand2, Demand3}
 use Rattle.claims.proofs.Answers.{is-refused, refuses-when}
 use Rattle.claims.proofs.Records.{records-are-accepted}
@@ -90,9 +91,8 @@ exported-listed w (exportedWord f) = call-listed w (byWord (passed-on f))
 exported-listed w (exportedText ps e f) = call-listed w (byText ps e (passed-on f))
 
 -- A two-word call that answers has judged both words good.
-decides↔joined : (w x : Word) (f : TwoWordCall (bytesOf w) (bytesOf x))
-    → ((decisionOf (f .answer) ≡ same) ↔ Joined w x) × ((decisionOf (f .answer) ≡ different) ↔ (Joined w x → ⊥))
-decides↔joined w x f =
+decides-by : (w x : Word) (f : TwoWordCall (bytesOf w) (bytesOf x)) → Decides (decisionOf (f .answer)) w x
+decides-by w x f =
     let m = f .lent1 in
     let k = f .lent2 in
     let refused = two-refused (bytesOf w) (bytesOf x) m (f .left1) k (f .left2) (f .answer) (f .contract) .0 in
@@ -163,5 +163,5 @@ pub demand3 : Demand3
 demand3 = record {
   equal-just-when-joined = equal↔joined;
   exported-just-when-joined = λ w x f g. listed↔joined w x (exported-listed w f) (exported-listed x g);
-  same-just-when-joined = decides↔joined;
+  decides-by-chains = decides-by;
 }

@@ -30,14 +30,17 @@ use Rattle.updates.proofs.Following.{grown-holds}
 use Rattle.updates.proofs.Fitting.{grown-length}
 use Rattle.updates.proofs.Charging.{charges-new, charges-present}
 use Rattle.claims.specs.Answers.{Refuses, IsRefused}
+use Rattle.claims.specs.Refusals.{NoWordRefusal}
 use Rattle.claims.specs.Given.{RecordOfWord}
 use Rattle.claims.specs.Registers.{Unfiled, HasFour, NoRoom, EnterRefusal, isPresent, isNew, EnteredAs}
-use Rattle.claims.specs.Registers.{EntersWords, OnlyNew, OnlyNewBytes, Charged, Charges}
+use Rattle.claims.specs.Registers.{EntersWords, OnlyNew, OnlyNewBytes, StoredSmaller, StoredIsSmaller}
+use Rattle.claims.specs.Registers.{Charged, Charges}
 use Rattle.claims.proofs.Answers.{is-refused, refuses-when}
 use Rattle.claims.proofs.Refusals.{judged-accepted}
-use Rattle.claims.proofs.WordCalls.{left-refused, judged-within, call-keeps-map}
+use Rattle.claims.proofs.WordCalls.{left-refused, judged-within, call-front, call-keeps-map}
 use Rattle.claims.proofs.Filed.{none↔unfiled}
 use Rattle.claims.proofs.NewEntries.{only-new-there}
+use Rattle.claims.proofs.StoredRecords.{stored-smaller}
 use Rattle.claims.proofs.Filings.{Filing, isRefused, isFound, isAdded, judge-filing, entered↔refusal}
 
 -- Replies that differ.
@@ -101,14 +104,16 @@ module _ (u : List ℕ) (m m′ : Memory) (h : ℕ) (s s′ : List ℕ) (r : Ent
     not-refused n p f = accepted-refused (sym e ∙ answers (refused n p) f)
 
     -- Tables and record buffer are left as by word to record.
+    word-call : (w : Word) (y : Found) → judgedWith u m ≡ accepted w → outcome ≡ accepted y
+        → Recorded u m m′ (Number (length (encodeWord w)))
+    word-call w y j f = record {
+      result = sym (ap (λ (o : Outcome Word). countRecord o) j);
+      leaves = subst (λ (o : Outcome Word). Left o m m′) (ap (beside (judgedWith u m)) f) (c .leaves);
+    }
+
     memory-left : (w : Word) (y : Found) → u ≡ bytesOf w → judgedWith u m ≡ accepted w → outcome ≡ accepted y
-        → (n : ℕ) × RecordOfWord m m′ n w
-    memory-left w y b j f =
-        let left : Left (judgedWith u m) m m′ =
-        subst (λ (o : Outcome Word). Left o m m′) (ap (beside (judgedWith u m)) f) (c .leaves) in
-        let own : Recorded u m m′ (Number (length (encodeWord w))) =
-        record { result = sym (ap (λ (o : Outcome Word). countRecord o) j); leaves = left } in
-        (length (encodeWord w), call-keeps-map {w = w} own refl b)
+        → RecordOfWord m m′ (length (encodeWord w)) w
+    memory-left w y b j f = call-keeps-map {w = w} (word-call w y j f) refl b
 
     -- The register with a new entry, in the buffer at exit.
     register-new : (w : Word) (q : Register) → judgedWith u m ≡ accepted w → WellFormed s q → Unfiled q w
@@ -131,7 +136,7 @@ module _ (u : List ℕ) (m m′ : Memory) (h : ℕ) (s s′ : List ℕ) (r : Ent
       judged = a;
       replied =
           isPresent k (ap (λ (y : Answer). y .reply) (answer-is (kept q k) f)) z (leaves (accepted (kept q k)) f);
-      left = memory-left w (kept q k) (a .word) j f;
+      left = (length (encodeWord w), memory-left w (kept q k) (a .word) j f);
     }
     entered-as (isAdded w q a j new few room f) =
         let more : Register = withEntry q h (storedForm w) in
@@ -143,7 +148,7 @@ module _ (u : List ℕ) (m m′ : Memory) (h : ℕ) (s s′ : List ℕ) (r : Ent
           replied =
               isNew (ap (λ (y : Answer). y .reply) (answer-is (grown more) f) ∙ ap newEntry next) new few room
               (register-new w q j (a .register) new few room f);
-          left = memory-left w (grown more) (a .word) j f;
+          left = (length (encodeWord w), memory-left w (grown more) (a .word) j f);
         }
 
     -- The account, where the register q became p.
@@ -193,6 +198,24 @@ module _ (u : List ℕ) (m m′ : Memory) (h : ℕ) (s s′ : List ℕ) (r : Ent
         (only-new-there s p h (storedForm v) (register-written s p (c .are-bytes) reads)
         (fits s p v room)))))
 
+    -- The record that a new entry stores.
+    stored-as : (k : ℕ) (w : Word) (q : Register) → u ≡ bytesOf w
+        → OnlyNew s s′ k h (length (registerBytes q)) (encode (storedForm w)) → Filing u m h s
+        → StoredSmaller m m′ s′ (length (registerBytes q)) w
+    stored-as k w q b o d = by d
+      where
+        at : (y : Found) → NoWordRefusal u m → outcome ≡ accepted y
+            → StoredSmaller m m′ s′ (length (registerBytes q)) w
+        at y a f =
+            let j = judged-accepted u m w a b in
+            stored-smaller m m′ s s′ k h (length (registerBytes q)) w (judged-within u m w j)
+            (memory-left w y b j f) (call-front {w = w} (word-call w y j f) refl b .front) o
+
+        by : Filing u m h s → StoredSmaller m m′ s′ (length (registerBytes q)) w
+        by (isRefused i p z f) = absurd (not-refused i p f)
+        by (isFound v p i a j z f) = at (kept p i) (a .accepts) f
+        by (isAdded v p a j new few room f) = at (grown (withEntry p h (storedForm v))) (a .accepts) f
+
 pub enters-words : EntersWords
 enters-words u m m′ h s s′ r x c e = entered-as u m m′ h s s′ r c x e (judge-filing u m h s (c .are-bytes))
 
@@ -202,3 +225,8 @@ account-charged u m m′ h s s′ r x c e = charged-as u m m′ h s s′ r c x e
 pub only-new-bytes : OnlyNewBytes
 only-new-bytes u m m′ h s s′ r x k w q c e n b wf =
     only-new-as u m m′ h s s′ r c x e k w q n b wf (judge-filing u m h s (c .are-bytes))
+
+pub stored-is-smaller : StoredIsSmaller
+stored-is-smaller u m m′ h s s′ r x k w q c e n b wf =
+    let filing = judge-filing u m h s (c .are-bytes) in
+    stored-as u m m′ h s s′ r c x e k w q b (only-new-as u m m′ h s s′ r c x e k w q n b wf filing) filing

@@ -1,11 +1,12 @@
--- The search of a register, by elements: a number is found just where an entry with it holds the element of the word.
+-- The search of a register, by elements: a number is found just where an entry with it holds the element of the word or
+-- of its inverse.
 --     filed↔form       all that is said of elements: records are equal just where the words are filed as one
 --     number↔filed     the number that is found, and its entry        none↔unfiled   nothing is found, and no entry
 -- Assumes nothing.
 use mathlib.Core.Path.{_≡_, refl, sym, ap, _∙_, subst}
 use mathlib.Core.Bool.{Bool, true, false, cond, true≢false}
 use mathlib.Core.List.{List, [], _∷_}
-use mathlib.Core.Logic.{_↔_}
+use mathlib.Core.Logic.{_⊎_, _↔_}
 use mathlib.Core.Option.{Option, none, some}
 use Prim.Native.Nat.{ℕ, zero, suc, _≤_}
 use native.Mathlib.Omega.{arith}
@@ -15,32 +16,48 @@ use Rattle.lists.specs.SameBytes.{sameBytes}
 use Rattle.lists.proofs.Entries.{at-same}
 use Rattle.lists.proofs.SameBytes.{same-bytes, bytes-same}
 use Rattle.group.specs.Letters.{Word}
-use Rattle.group.specs.Chains.{Joined}
 use Rattle.group.specs.Forms.{Form, letters}
 use Rattle.group.specs.Limits.{limit}
-use Rattle.group.specs.Products.{formOf}
-use Rattle.group.proofs.Reduced.{form-trimmed}
-use Rattle.group.proofs.Theorems.{form-map, joined↔maps, the-form-joined}
+use Rattle.group.specs.Products.{formOf, exchange}
+use Rattle.group.proofs.Theorems.{forms↔joined, the-form-joined}
 use Rattle.records.specs.Format.{encode, IsRecord}
-use Rattle.records.proofs.ReadBack.{encode-injective}
-use Rattle.records.proofs.WordForms.{form-within}
+use Rattle.records.specs.Exchange.{isAbove, smallerForm}
+use Rattle.records.proofs.WordForms.{word-record}
+use Rattle.records.proofs.Exchanges.{smaller-record, record-form, smaller-kept, smaller-either, either-smaller}
 use Rattle.registers.specs.Format.{Entry, Register}
 use Rattle.registers.specs.Reading.{holdsForm, numberFor}
 use Rattle.registers.specs.WellFormed.{WellFormed}
 use Rattle.updates.specs.Entering.{storedForm}
 use Rattle.updates.specs.History.{SameElement}
+use Rattle.updates.proofs.StoredForms.{same↔forms}
 use Rattle.claims.specs.Registers.{Filed, Unfiled}
 
--- An entry's record is that of a word just where its letters and the word are filed as one.
-pub filed↔form : (f : Form) (w : Word) → IsRecord (encode f) f → length w ≤ limit
+-- A form is that of a word, or of its inverse.
+abbrev OfEither : Word → Form → Type 0
+OfEither w g = (g ≡ formOf w) ⊎ (g ≡ exchange (formOf w))
+
+-- An entry's record, which is not above its exchange, is the one that is stored for a word just where its letters and
+-- the word are filed as one.
+pub filed↔form : (f : Form) (w : Word) → IsRecord (encode f) f → isAbove (encode f) ≡ false → length w ≤ limit
     → (encode f ≡ encode (storedForm w)) ↔ SameElement (letters f) w
-filed↔form f w r short = (to, λ j. ap encode (the-form-joined w f (r .reduced) (r .trimmed) j))
+filed↔form f w r low short = (to, from)
   where
+    own : f ≡ formOf (letters f)
+    own = the-form-joined (letters f) f (r .reduced) (r .trimmed) (forms↔joined (letters f) (letters f) .0 refl)
+
+    kept : smallerForm f ≡ f
+    kept = smaller-kept f low
+
     to : encode f ≡ encode (storedForm w) → SameElement (letters f) w
     to e =
-        let is : f ≡ formOf w =
-        encode-injective f (formOf w) (r .trimmed) (r .within) (form-trimmed w) (form-within w short) e in
-        subst (λ (g : Form). Joined (letters g) w) (sym is) (joined↔maps (letters (formOf w)) w .1 (form-map w))
+        let is : f ≡ storedForm w =
+        record-form f (storedForm w) r (smaller-record (formOf w) (word-record w short)) e in
+        same↔forms (letters f) w .1 (subst (OfEither w) own (smaller-either f (formOf w) (kept ∙ is)))
+
+    from : SameElement (letters f) w → encode f ≡ encode (storedForm w)
+    from j =
+        let either : OfEither w f = subst (OfEither w) (sym own) (same↔forms (letters f) w .0 j) in
+        ap encode (sym kept ∙ either-smaller f (formOf w) (word-record w short) either)
 
 -- An entry with the number k has the record of a form.
 record Has (f : Form) (es : List Entry) (k : ℕ) : Type 0 where
@@ -90,23 +107,25 @@ module _ (s : List ℕ) (q : Register) (w : Word) (r : WellFormed s q) (short : 
   has-filed : (k : ℕ) → Has (storedForm w) (q .entries) k → Filed q w k
   has-filed k x =
       let readable = r .readable (x .place) (x .entry) (x .stands) in
+      let low = r .not-above (x .place) (x .entry) (x .stands) in
       record {
         place = x .place;
         entry = x .entry;
         stands = x .stands;
         number = x .number;
-        same = filed↔form (x .entry .form) w readable short .0 (x .same);
+        same = filed↔form (x .entry .form) w readable low short .0 (x .same);
       }
 
   filed-has : (k : ℕ) → Filed q w k → Has (storedForm w) (q .entries) k
   filed-has k x =
       let readable = r .readable (x .place) (x .entry) (x .stands) in
+      let low = r .not-above (x .place) (x .entry) (x .stands) in
       record {
         place = x .place;
         entry = x .entry;
         stands = x .stands;
         number = x .number;
-        same = filed↔form (x .entry .form) w readable short .1 (x .same);
+        same = filed↔form (x .entry .form) w readable low short .1 (x .same);
       }
 
   -- No record is twice in a register: one number.

@@ -12,6 +12,7 @@ pub mod TextCalls
 pub mod PhraseCalls
 pub mod Filed
 pub mod NewEntries
+pub mod StoredRecords
 pub mod RegisterRefusals
 pub mod Filings
 pub mod EnterCalls

@@ -9,10 +9,9 @@ use Rattle.group.specs.Forms.{Form}
 use Rattle.refusals.specs.Outcomes.{Outcome, accepted, refused, then}
 use Rattle.refusals.proofs.Outcomes.{accepted-refused, refused-number, refused-place}
 use Rattle.fields.specs.Fields.{Bytes, headSize, fourAt}
-use Rattle.records.specs.Reading.{decode}
 use Rattle.registers.specs.Format.{Register, firstSize}
-use Rattle.registers.specs.Reading.{ends, entrySize, entryStands, numberIn, holderIn, recordIn, entryOf, readEntry}
-use Rattle.registers.specs.Reading.{readEntries, sound, firstStands, readRegister}
+use Rattle.registers.specs.Reading.{ends, entrySize, entryStands, numberIn, holderIn, recordIn, storedIn, entryOf}
+use Rattle.registers.specs.Reading.{readEntry, readEntries, sound, firstStands, readRegister}
 use Rattle.registers.proofs.WellFormed.{reads-well-formed}
 use Rattle.claims.specs.Registers.{RegisterRefusal}
 
@@ -42,7 +41,7 @@ form-twelve i j (refused a b) n p e = so-twelve n p e
 
 entry-twelve : (s : List ℕ) → Twelve (readEntry s)
 entry-twelve s n p e =
-    cond-twelve (entryStands s) _ _ (form-twelve (numberIn s) (holderIn s) (decode (recordIn s))) so-twelve n p e
+    cond-twelve (entryStands s) _ _ (form-twelve (numberIn s) (holderIn s) (storedIn (recordIn s))) so-twelve n p e
 
 entries-twelve : (k : ℕ) (s : List ℕ) → Twelve (readEntries k s)
 unfolding readEntries

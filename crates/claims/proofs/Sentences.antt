@@ -8,10 +8,11 @@ use Rattle.group.proofs.Theorems.{letter-undone, joined↔maps}
 use Rattle.group.proofs.Reducing.{step-joined, step-map}
 use Rattle.group.proofs.NoStep.{stepAt, step-exists, reduced↔no-step}
 use Rattle.group.proofs.ReducingEnds.{steps-bounded, steps-reach, steps-end as same-end}
-use Rattle.group.proofs.Exchange.{form-inverse, behind-joined, form-behind}
+use Rattle.group.proofs.Exchange.{form-inverse, behind-joined, form-behind, self-inverse}
 use Rattle.claims.specs.Sentences.{InverseUndoes, EndsFixed, ZerosIgnored, GeneratorsConjugate}
 use Rattle.claims.specs.Sentences.{PresentationsAgree, JoinedIsOneMap, StepKeepsElement, StepCanBeTaken}
 use Rattle.claims.specs.Sentences.{ReducedIsNoStep, StepsEnd, LettersAtEnds, BehindIsInFront, InverseExchanges}
+use Rattle.claims.specs.Sentences.{OnlyIdentityIsItsInverse}
 
 pub inverse-undoes : InverseUndoes
 inverse-undoes = letter-undone
@@ -56,3 +57,6 @@ behind-is-in-front = form-behind
 
 pub inverse-exchanges : InverseExchanges
 inverse-exchanges = form-inverse
+
+pub only-identity-is-its-inverse : OnlyIdentityIsItsInverse
+only-identity-is-its-inverse = self-inverse

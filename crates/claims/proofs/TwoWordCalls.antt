@@ -1,53 +1,80 @@
 -- The two-word call: what it refuses, what it leaves, what it decides, by the outcomes of its two words.
 -- Assumes nothing.
-use mathlib.Core.Path.{_≡_, refl, sym, ap, ap₂, _∙_}
-use mathlib.Core.Bool.{Bool, true, false, cond}
+use mathlib.Core.Path.{_≡_, refl, sym, ap, ap₂, _∙_, subst}
+use mathlib.Core.Bool.{Bool, true, false, true≢false}
 use mathlib.Core.List.{List}
 use mathlib.Core.Logic.{inl, inr, _↔_}
-use Prim.Native.Nat.{ℕ}
+use Prim.Native.Nat.{ℕ, _≤_}
 use native.Mathlib.Omega.{arith}
 use lib.ListN.{length}
-use Rattle.group.specs.Letters.{Word}
+use Rattle.lists.specs.SameBytes.{sameBytes}
+use Rattle.lists.proofs.SameBytes.{same-bytes, bytes-same}
+use Rattle.group.specs.Letters.{Word, inverse}
 use Rattle.group.specs.Chains.{Joined}
+use Rattle.group.specs.Forms.{Form}
+use Rattle.group.specs.Limits.{limit}
+use Rattle.group.specs.Products.{formOf}
+use Rattle.group.proofs.Exchange.{form-inverse}
 use Rattle.refusals.specs.Outcomes.{Outcome, accepted, refused}
 use Rattle.refusals.specs.declared.Reply.{Reply}
 use Rattle.refusals.specs.declared.Reply.the-variants.{Number}
 use Rattle.refusals.specs.Memory.{Memory}
+use Rattle.records.specs.Format.{encode, Within}
+use Rattle.records.specs.Exchange.{exchanged}
+use Rattle.records.proofs.WordForms.{form-within, word-record}
+use Rattle.records.proofs.Exchanges.{exchanged-encode, exchange-record}
 use Rattle.words.specs.Recording.{judgedWith, encodeWord, countRecord, Left, Recorded}
-use Rattle.comparisons.specs.Comparing.{Decision, same, different, refusedWord, decided, decisionOf}
-use Rattle.lists.specs.SameBytes.{sameBytes}
-use Rattle.comparisons.specs.Comparing.{ComparedBy, Compared}
+use Rattle.comparisons.specs.Comparing.{Decision, same, inverse as inverses, different, refusedWord, verdictBy, decided}
+use Rattle.comparisons.specs.Comparing.{decisionOf, ComparedBy, Compared}
 use Rattle.comparisons.specs.declared.Comparison.{Comparison}
-use Rattle.lists.proofs.SameBytes.{same-bytes, bytes-same}
 use Rattle.claims.specs.Refusals.{WordRefusal}
 use Rattle.claims.specs.Answers.{None, WordRefused, Answered, RefusesWords}
+use Rattle.claims.specs.Given.{Decides}
 use Rattle.claims.proofs.Refusals.{judged↔refusal, accepted-none, none-accepted}
+use Rattle.claims.proofs.Written.{Listed, listed↔joined}
 use Rattle.claims.proofs.WordCalls.{left-refused, judged-within, records↔joined}
 
 -- Decisions that differ.
 other-word : {i q n p : ℕ} → refusedWord 1 i q ≡ refusedWord 0 n p → ⊥
 other-word h = let z : _≡_ {A = ℕ} 1 0 = cc in omega arith
 
-no-refusal : (t : Bool) {word n p : ℕ} → cond t same different ≡ refusedWord word n p → ⊥
-no-refusal true h = let z : _≡_ {A = ℕ} 0 1 = cc in omega arith
-no-refusal false h = let z : _≡_ {A = ℕ} 0 1 = cc in omega arith
+same-inverse : same ≡ inverses → ⊥
+same-inverse h = let z : _≡_ {A = ℕ} 0 1 = cc in omega arith
+
+same-different : same ≡ different → ⊥
+same-different h = let z : _≡_ {A = ℕ} 0 1 = cc in omega arith
+
+inverse-different : inverses ≡ different → ⊥
+inverse-different h = let z : _≡_ {A = ℕ} 0 1 = cc in omega arith
+
+no-refusal : (a b : Bool) {word n p : ℕ} → verdictBy a b ≡ refusedWord word n p → ⊥
+no-refusal true b h = let z : _≡_ {A = ℕ} 0 1 = cc in omega arith
+no-refusal false true h = let z : _≡_ {A = ℕ} 0 1 = cc in omega arith
+no-refusal false false h = let z : _≡_ {A = ℕ} 0 1 = cc in omega arith
 
 not-answered : {d : Decision} {word n p : ℕ} → Answered d → d ≡ refusedWord word n p → ⊥
-not-answered (inl e) h = no-refusal true (sym e ∙ h)
-not-answered (inr e) h = no-refusal false (sym e ∙ h)
+not-answered (inl e) h = no-refusal true true (sym e ∙ h)
+not-answered (inr (inl e)) h = no-refusal false true (sym e ∙ h)
+not-answered (inr (inr e)) h = no-refusal false false (sym e ∙ h)
+
+-- Whether two words have one record, and whether the first has the other's with its sides exchanged.
+abbrev equals : Word → Word → Bool
+equals w x = sameBytes (encodeWord w) (encodeWord x)
+
+abbrev exchanges : Word → Word → Bool
+exchanges w x = sameBytes (encodeWord w) (exchanged (encodeWord x))
 
 -- Which word was refused.
 first-word : (o q : Outcome Word) (n p : ℕ) → decided o q ≡ refusedWord 0 n p → o ≡ refused n p
 first-word (refused i j) q n p d = cc
 first-word (accepted w) (refused i j) n p d = absurd (other-word d)
-first-word (accepted w) (accepted x) n p d = absurd (no-refusal (sameBytes (encodeWord w) (encodeWord x)) d)
+first-word (accepted w) (accepted x) n p d = absurd (no-refusal (equals w x) (exchanges w x) d)
 
 second-word : (o q : Outcome Word) (n p : ℕ) → decided o q ≡ refusedWord 1 n p
     → ((w : Word) × (o ≡ accepted w)) × (q ≡ refused n p)
 second-word (refused i j) q n p d = absurd (other-word (sym d))
 second-word (accepted w) (refused i j) n p d = ((w, refl), cc)
-second-word (accepted w) (accepted x) n p d =
-    absurd (no-refusal (sameBytes (encodeWord w) (encodeWord x)) d)
+second-word (accepted w) (accepted x) n p d = absurd (no-refusal (equals w x) (exchanges w x) d)
 
 -- What is left of the memories, by the two outcomes.
 module _ {m m′ k k′ : Memory} {c : Comparison} where
@@ -57,7 +84,7 @@ module _ {m m′ k k′ : Memory} {c : Comparison} where
   kept-both (refused i j) (accepted x) h d = (left-refused i j refl (h .leaves1), left-refused i j refl (h .leaves2))
   kept-both (accepted w) (refused i j) h d = (left-refused i j refl (h .leaves1), left-refused i j refl (h .leaves2))
   kept-both (accepted w) (accepted x) h (word, n, p, d) =
-      absurd (no-refusal (sameBytes (encodeWord w) (encodeWord x)) (sym (h .result) ∙ d))
+      absurd (no-refusal (equals w x) (exchanges w x) (sym (h .result) ∙ d))
 
   -- An answer leaves each as the word's own outcome does.
   left-both : (o q : Outcome Word) → ComparedBy o q m m′ k k′ c → Answered (decisionOf c)
@@ -66,24 +93,45 @@ module _ {m m′ k k′ : Memory} {c : Comparison} where
   left-both (accepted w) (refused i j) h a = absurd (not-answered a (h .result))
   left-both (accepted w) (accepted x) h a = ((w, refl, h .leaves1), (x, refl, h .leaves2))
 
--- A decision by a test.
-answered : (t : Bool) {d : Decision} → d ≡ cond t same different → Answered d
-answered true e = inl e
-answered false e = inr e
+-- A decision by two tests.
+answered : (a b : Bool) {d : Decision} → d ≡ verdictBy a b → Answered d
+answered true b e = inl e
+answered false true e = inr (inl e)
+answered false false e = inr (inr e)
 
-decides : (t : Bool) {d : Decision} {P : Type 0} → d ≡ cond t same different → (t ≡ true) ↔ P
-    → ((d ≡ same) ↔ P) × ((d ≡ different) ↔ (P → ⊥))
-decides true {d} {P} e j = (((λ s. j .0 refl), λ p. e), (λ f. absurd (never f), λ n. absurd (n (j .0 refl))))
-  where
-    never : d ≡ different → ⊥
-    never f = let z : same ≡ different = sym e ∙ f in let y : _≡_ {A = ℕ} 0 1 = cc in omega arith
-decides false {d} {P} e j = (((λ s. absurd (never s)), λ p. absurd (none p)), ((λ f p. none p), λ n. e))
-  where
-    never : d ≡ same → ⊥
-    never s = let z : same ≡ different = sym s ∙ e in let y : _≡_ {A = ℕ} 0 1 = cc in omega arith
+decides : (a b : Bool) {d : Decision} {w x : Word} → d ≡ verdictBy a b → (a ≡ true) ↔ Joined w x
+    → (b ≡ true) ↔ Joined w (inverse x) → Decides d w x
+decides true b e j k = record {
+  same-just-when = ((λ s. j .0 refl), λ p. e);
+  inverse-just-when = ((λ f. absurd (same-inverse (sym e ∙ f))), λ n. absurd (n .0 (j .0 refl)));
+  different-just-when = ((λ f. absurd (same-different (sym e ∙ f))), λ n. absurd (n .0 (j .0 refl)));
+}
+decides false true e j k = record {
+  same-just-when = ((λ s. absurd (same-inverse (sym s ∙ e))), λ p. absurd (true≢false (sym (j .1 p))));
+  inverse-just-when = ((λ f. ((λ p. true≢false (sym (j .1 p))), k .0 refl)), λ n. e);
+  different-just-when = ((λ f. absurd (inverse-different (sym e ∙ f))), λ n. absurd (n .1 (k .0 refl)));
+}
+decides false false e j k = record {
+  same-just-when = ((λ s. absurd (same-different (sym s ∙ e))), λ p. absurd (true≢false (sym (j .1 p))));
+  inverse-just-when =
+      ((λ f. absurd (inverse-different (sym f ∙ e))), λ n. absurd (true≢false (sym (k .1 (n .1)))));
+  different-just-when = ((λ f. ((λ p. true≢false (sym (j .1 p))), λ p. true≢false (sym (k .1 p)))), λ n. e);
+}
 
-    none : P → ⊥
-    none p = let z : false ≡ true = j .1 p in let y : _≡_ {A = ℕ} 0 1 = cc in omega arith
+-- The test of two lists, where they are equal just under a condition.
+same↔when : (s t : List ℕ) {P : Type 0} → (s ≡ t) ↔ P → (sameBytes s t ≡ true) ↔ P
+same↔when s t j = (
+  (λ e. j .0 (same-bytes s t e)),
+  (λ p. ap (λ (l : List ℕ). sameBytes s l) (sym (j .1 p)) ∙ bytes-same s),
+)
+
+-- The record of a word with its sides exchanged is that of its inverse.
+inverse-listed : (x : Word) → length x ≤ limit → Listed (inverse x) (exchanged (encodeWord x))
+inverse-listed x few = record {
+  is = exchanged-encode (formOf x) ∙ ap encode (sym (form-inverse x));
+  within =
+      subst (λ (f : Form). Within f) (sym (form-inverse x)) (exchange-record (formOf x) (word-record x few) .within);
+}
 
 -- A memory that is left as the word's own call leaves it.
 own-call : {u : List ℕ} {m m′ : Memory} → (w : Word) × (judgedWith u m ≡ accepted w) × Left (judgedWith u m) m m′
@@ -116,7 +164,7 @@ module _ (u v : List ℕ) (m m′ k k′ : Memory) (c : Comparison) (h : Compare
     (λ r.
         let w = none-accepted u m (r .0) in
         let x = none-accepted v k (r .1) in
-        answered (sameBytes (encodeWord (w .0)) (encodeWord (x .0))) (h .result ∙ ap₂ decided (w .1) (x .1))),
+        answered (equals (w .0) (x .0)) (exchanges (w .0) (x .0)) (h .result ∙ ap₂ decided (w .1) (x .1))),
   )
 
   -- What is refused, and that a refusal leaves both memories.
@@ -135,12 +183,13 @@ module _ (u v : List ℕ) (m m′ k k′ : Memory) (c : Comparison) (h : Compare
   pub own-calls : Answered (decisionOf c) → ((r : Reply) × Recorded u m m′ r) × ((q : Reply) × Recorded v k k′ q)
   own-calls a = let x = left-both (judgedWith u m) (judgedWith v k) h a in (own-call (x .0), own-call (x .1))
 
-  -- Two accepted words: same just when a chain joins them, else different.
+  -- Two accepted words: same, inverse or different by chains.
   pub two-decided : (w x : Word) → judgedWith u m ≡ accepted w → judgedWith v k ≡ accepted x
-      → ((decisionOf c ≡ same) ↔ Joined w x) × ((decisionOf c ≡ different) ↔ (Joined w x → ⊥))
+      → Decides (decisionOf c) w x
   two-decided w x e f =
-      let joins = records↔joined w x (judged-within u m w e) (judged-within v k x f) in
-      decides (sameBytes (encodeWord w) (encodeWord x)) (h .result ∙ ap₂ decided e f) (
-        (λ t. joins .0 (same-bytes (encodeWord w) (encodeWord x) t)),
-        (λ j. ap (λ (l : List ℕ). sameBytes (encodeWord w) l) (sym (joins .1 j)) ∙ bytes-same (encodeWord w)),
-      )
+      let few = judged-within u m w e in
+      let few′ = judged-within v k x f in
+      let own : Listed w (encodeWord w) = record { is = refl; within = form-within w few } in
+      decides (equals w x) (exchanges w x) (h .result ∙ ap₂ decided e f)
+      (same↔when (encodeWord w) (encodeWord x) (records↔joined w x few few′))
+      (same↔when (encodeWord w) (exchanged (encodeWord x)) (listed↔joined w (inverse x) own (inverse-listed x few′)))

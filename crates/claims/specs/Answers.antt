@@ -4,14 +4,14 @@
 --     None R                      no condition holds
 --     IsRefused o, IsAccepted o   the outcome o is a refusal; a value
 --     Refuses o R                 o is a refusal just under its condition, and a value where none holds
---     WordRefused d, Answered d   the decision d on two words is a refusal; same or different
+--     WordRefused d, Answered d   the decision d on two words is a refusal; same, inverse or different
 --     RefusesWords d R S          the same of d: the conditions R of the first word, then S of the second
 -- Assumes nothing.
 use mathlib.Core.Path.{_≡_}
 use mathlib.Core.Logic.{_⊎_, _↔_}
 use Prim.Native.Nat.{ℕ}
 use Rattle.refusals.specs.Outcomes.{Outcome, accepted, refused}
-use Rattle.comparisons.specs.Comparing.{Decision, same, different, refusedWord}
+use Rattle.comparisons.specs.Comparing.{Decision, same, inverse, different, refusedWord}
 
 -- No refusal's condition holds.
 abbrev pub None : (ℕ → ℕ → Type 0) → Type 0
@@ -36,7 +36,7 @@ WordRefused d = (word number place : ℕ) × (d ≡ refusedWord word number plac
 
 -- It answered.
 abbrev pub Answered : Decision → Type 0
-Answered d = (d ≡ same) ⊎ (d ≡ different)
+Answered d = (d ≡ same) ⊎ (d ≡ inverse) ⊎ (d ≡ different)
 
 -- The same for two words, 0 and 1, with the conditions R of the first and S of the second: the first word's refusals
 -- come first.

@@ -117,7 +117,7 @@ LengthCall s = MeasureCall formLength s
 abbrev pub LabelLengthCall : List ℕ → Type 0
 LabelLengthCall s = MeasureCall labelSum s
 
--- A call of same_element that answered same or different.
+-- A call of same_element that answered same, inverse or different.
 pub record TwoWordCall (u v : List ℕ) : Type 0 where
   pub lent1 : Memory
   pub left1 : Memory

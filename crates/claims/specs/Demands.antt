@@ -35,7 +35,7 @@
 --     SpellingCall, PhraseCall, PairCall, LengthCall, LabelLengthCall s, of a record              claims, Calls
 --     TwoWordCall u v, ExportedCall w    of two words; of an export                               claims, Calls
 --     Reply, Verdict              answer types; replyOf, verdictOf: their outcomes                refusals, Outcomes
---     Comparison, decisionOf      the answer on two words; same, different, or a refused word   comparisons, Comparing
+--     Comparison, decisionOf      the answer on two words; its verdict, or a refused word       comparisons, Comparing
 --     Entered, numberOfEntered    the answer on a filing; its outcome, with the entry's number    updates, Entering
 --     NodeEnd, nodeEndOf          the answer that is a node; its outcome                          packed, Answers
 -- On the right sides:
@@ -53,6 +53,7 @@
 --     NoTextRefusal, ShortTables, ShortRecord    the same of texts: 9, 10, 11, 6 and 7            claims, Refusals
 --     RecordOfWord, PairOfRecord, LengthOfRecord, WordOfRecord    what a call gives               claims, Given
 --     RecordOfText, TextOfRecord  the same of the calls on texts                                  claims, Given
+--     Decides d w x               the verdict d on two words: same, inverse or different, by chains   claims, Given
 --     textOf ps, AllInRange ps    the text of powers; indices and exponents are allowed           tokens, Texts, Tokens
 --     IsRecord s f                s is the record of the form f                                   records, Format
 --     Word, bytesOf w             a string of letters; its bytes, one a letter                    group, Letters, Bytes
@@ -84,7 +85,7 @@ use Rattle.tokens.specs.Tokens.{AllInRange}
 use Rattle.tokens.specs.Texts.{textOf}
 use Rattle.notation.specs.Contracts.{TextRecorded, TextWritten}
 use Rattle.words.specs.Recording.{Recorded}
-use Rattle.comparisons.specs.Comparing.{Compared, decisionOf, same, different}
+use Rattle.comparisons.specs.Comparing.{Compared, decisionOf}
 use Rattle.comparisons.specs.declared.Comparison.{Comparison}
 use Rattle.wordlists.specs.Listing.{Listed}
 use Rattle.packed.specs.Packing.{caretsBefore}
@@ -102,7 +103,7 @@ use Rattle.claims.specs.Calls.{WordCall, TextCall, CallOn, recordBy, Mem
 use Rattle.claims.specs.Calls.{SpellingCall, spelledBy, PhraseCall, phrasedBy, PairCall}
 use Rattle.claims.specs.Calls.{LengthCall, LabelLengthCall, TwoWordCall, ExportedCall, exportedRecord}
 use Rattle.claims.specs.Given.{RecordOfWord, PairOfRecord, LengthOfRecord, WordOfRecord}
-use Rattle.claims.specs.Given.{RecordOfText, TextOfRecord}
+use Rattle.claims.specs.Given.{RecordOfText, TextOfRecord, Decides}
 use Rattle.claims.specs.Registers.{RegisterRefusal, EnterRefusal}
 use Rattle.claims.specs.Lists.{ListRefusal}
 use Rattle.claims.specs.Packed.{PackRefusal, UnpackRefusal, NodeRefusal, GrowRefusal}
@@ -186,10 +187,9 @@ pub record Demand2 : Type 0 where
 
 -- Demand 3: two accepted words, each sent in letters or in subscript notation, have equal records, as many bytes and
 -- the same byte at each place, just when a chain joins them, whatever the lent memory held; so it is of the exported
--- calls; and the two-word call decides it.
+-- calls; and the two-word call decides it, and whether a chain joins the one to the other's inverse.
 pub record Demand3 : Type 0 where
   pub equal-just-when-joined : (w x : Word) (f : CallOn w) (g : CallOn x) → (recordBy f ≡ recordBy g) ↔ Joined w x
   pub exported-just-when-joined : (w x : Word) (f : ExportedCall w) (g : ExportedCall x)
       → (exportedRecord f ≡ exportedRecord g) ↔ Joined w x
-  pub same-just-when-joined : (w x : Word) (f : TwoWordCall (bytesOf w) (bytesOf x))
-      → ((decisionOf (f .answer) ≡ same) ↔ Joined w x) × ((decisionOf (f .answer) ≡ different) ↔ (Joined w x → ⊥))
+  pub decides-by-chains : (w x : Word) (f : TwoWordCall (bytesOf w) (bytesOf x)) → Decides (decisionOf (f .answer)) w x

@@ -5,6 +5,7 @@
 --     PairOfRecord s p q p′ q′ n    record to tree pair: the record s, N = n, both buffers at entry and at exit
 --     LengthOfRecord s n            record to length, also by Table 1: the record s, its length n
 --     WordOfRecord s t t′ o         record to word: the record s, the buffer at entry and at exit, the outcome o
+--     Decides d w x                 the decision d on the words w and x: same, inverse or different by chains
 --     VerdictOfWords u m m′ v k k′ d   two words: the bytes and the memory of each, the decision d
 -- Names used, and where each is defined:
 --     IsRecord s f                  s is the record of the form f                               records, Format
@@ -31,7 +32,7 @@ use mathlib.Core.Logic.{_↔_}
 use Prim.Native.Nat.{ℕ, _+_, _*_, _<_, _≤_}
 use lib.ListN.{length, take, drop, getD}
 use Rattle.lists.specs.Entries.{At}
-use Rattle.group.specs.Letters.{Word}
+use Rattle.group.specs.Letters.{Word, inverse}
 use Rattle.group.specs.Bytes.{bytesOf}
 use Rattle.group.specs.Chains.{Joined}
 use Rattle.group.specs.Maps.{SameMap}
@@ -48,7 +49,7 @@ use Rattle.trees.specs.Shapes.{shape}
 use Rattle.lengths.specs.Kinds.{Kind, IsKind}
 use Rattle.lengths.specs.Weights.{weights}
 use Rattle.spelling.specs.Spelling.{Spells}
-use Rattle.comparisons.specs.Comparing.{Decision, same, different}
+use Rattle.comparisons.specs.Comparing.{Decision, same, inverse as inverses, different}
 
 -- The n bytes at the front of the buffer are the record of a reduced form with the word's map, and the first k entries
 -- of the tables are that form's exponents; everything beyond is unchanged.
@@ -125,13 +126,19 @@ pub record WordOfRecord (s t t′ : List ℕ) (o : Outcome ℕ) : Type 0 where
   pub same-map : SameMap word (letters form)
   pub answer : SpelledInto word t t′ o
 
+-- The verdict on two words (02, [7]): same just when a chain joins them; inverse just when none does, and one joins the
+-- first to the other's inverse; different just when neither does.
+pub record Decides (d : Decision) (w x : Word) : Type 0 where
+  pub same-just-when : (d ≡ same) ↔ Joined w x
+  pub inverse-just-when : (d ≡ inverses) ↔ ((Joined w x → ⊥) × Joined w (inverse x))
+  pub different-just-when : (d ≡ different) ↔ ((Joined w x → ⊥) × (Joined w (inverse x) → ⊥))
+
 -- Two words, where the call answers: the memory of each is left as that word's own call leaves it, and the decision is
--- same just when a chain joins them, else different.
+-- by chains.
 pub record VerdictOfWords (u : List ℕ) (m m′ : Memory) (v : List ℕ) (k k′ : Memory) (d : Decision) : Type 0 where
   pub first : Word
   pub second : Word
   pub bytes : (u ≡ bytesOf first) × (v ≡ bytesOf second)
   pub first-left : (n : ℕ) × RecordOfWord m m′ n first
   pub second-left : (n : ℕ) × RecordOfWord k k′ n second
-  pub same-just-when : (d ≡ same) ↔ Joined first second
-  pub different-just-when : (d ≡ different) ↔ (Joined first second → ⊥)
+  pub decides : Decides d first second

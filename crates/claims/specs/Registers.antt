@@ -1,9 +1,10 @@
--- The register of first filings (02, [3]), over the contracts of `check_register` and `enter_word`. Read `History` and
--- `SameEntry` first; proofs/Registers.antt and proofs/EnterCalls.antt have the proofs.
+-- The register of first filings (02, [3] and [7]), over the contracts of `check_register` and `enter_word`. Read
+-- `History` and `SameEntry` first; proofs/Registers.antt and proofs/EnterCalls.antt have the proofs.
 --     RegistersAreRead    what is read as a register is well-formed, by 02's sentence, and nothing else is
 --     EnterRefusal        the conditions of 1, 2, 6, 7, 12, 13 and 14, one by one, in their order
 --     EntersWords         what a filing that is not refused answers and leaves
 --     OnlyNewBytes        the bytes that a new entry changes
+--     StoredIsSmaller     the record that it stores, beside the word's own
 --     History, SameEntry  any run of filings from a fresh register
 --     Charges             the account of the holder who files
 -- Letters: u bytes lent as a word; m, m′ what is lent with it, at entry and at exit; h a holder; s, s′ the register's
@@ -22,7 +23,10 @@
 --     storedForm w            the form under which a word's element is kept         updates, Entering
 --     withEntry q h f         q with one more entry, numbered one above the last    updates, Entering
 --     accountIn h q, raised a n   a holder's account; charged by n                  updates, Accounts
---     SameElement w x         the words are filed as one element                    updates, History
+--     isAbove b, exchanged b  the record b is above, in byte order, the record with its sides exchanged; that one
+--                                                                                   records, Exchange
+--     IsRecord b f            b is the record of the form f                         records, Format
+--     SameElement w x         a chain joins one word to the other or its inverse    updates, History
 --     Run cs s s′, Fresh s    a run of calls; a fresh register                      updates, History
 --     HistoryOf cs s′         the plain list answers as the run did                 updates, History
 --     Meets o n               the answer o names entry n                            updates, History
@@ -30,6 +34,7 @@
 --     RecordOfWord m m′ n w   what word to record leaves of tables and buffer       claims, Given
 -- Assumes nothing.
 use mathlib.Core.Path.{_≡_}
+use mathlib.Core.Bool.{true, false}
 use mathlib.Core.List.{List, _∷_, _++_}
 use mathlib.Core.Logic.{_⊎_, _↔_}
 use Prim.Native.Nat.{ℕ, _+_, _<_, _≤_}
@@ -42,7 +47,8 @@ use Rattle.refusals.specs.Outcomes.{accepted, verdictOf}
 use Rattle.refusals.specs.declared.Verdict.{Verdict}
 use Rattle.refusals.specs.Memory.{Memory}
 use Rattle.fields.specs.Fields.{fourBytes, headSize}
-use Rattle.records.specs.Format.{encode}
+use Rattle.records.specs.Format.{encode, IsRecord}
+use Rattle.records.specs.Exchange.{exchanged, isAbove}
 use Rattle.registers.specs.Format.{Entry, Register, entryBase, entryField, registerBytes, numberMost, liveMost}
 use Rattle.registers.specs.Reading.{live, numberFor, readRegister}
 use Rattle.registers.specs.Finding.{found}
@@ -75,7 +81,7 @@ pub record RegistersAreRead : Type 0 where
   pub found-there : (s : List ℕ) (v : Verdict) → RegisterChecked s v → (q : Register) → WellFormed s q → (f : Form)
       → found s (encode f) ≡ numberFor f (q .entries)
 
--- An entry of the register, with the number k, holds the element of the word.
+-- An entry of the register, with the number k, holds the element of the word or of its inverse.
 pub record Filed (q : Register) (w : Word) (k : ℕ) : Type 0 where
   pub place : ℕ
   pub entry : Entry
@@ -152,13 +158,34 @@ OnlyNewBytes =
     → EnteredWord u m m′ h s s′ r → enteredOf r ≡ accepted x → x .reply ≡ newEntry k → u ≡ bytesOf w → WellFormed s q
     → OnlyNew s s′ k h (length (registerBytes q)) (encode (storedForm w))
 
+-- The record that a new entry stores behind number and holder, where the entries ended at `end`: of the word's own
+-- record, which tables and record buffer hold at exit as word to record leaves them, and the record with its sides
+-- exchanged, the smaller in byte order; it is the record of the word or of its inverse.
+pub record StoredSmaller (m m′ : Memory) (s′ : List ℕ) (end : ℕ) (w : Word) : Type 0 where
+  pub own : List ℕ
+  pub left : RecordOfWord m m′ (length own) w
+  pub own-is : take (length own) (m′ .buffer) ≡ own
+  pub stored : List ℕ
+  pub stored-is : take (length stored) (drop (end + headSize + entryBase) s′) ≡ stored
+  pub smaller : ((isAbove own ≡ false) × (stored ≡ own)) ⊎ ((isAbove own ≡ true) × (stored ≡ exchanged own))
+  pub form : Form
+  pub is-record : IsRecord stored form
+  pub of-either : SameElement (letters form) w
+
+abbrev pub StoredIsSmaller : Type 0
+StoredIsSmaller =
+    (u : List ℕ) (m m′ : Memory) (h : ℕ) (s s′ : List ℕ) (r : Entered) (x : Answer) (k : ℕ) (w : Word) (q : Register)
+    → EnteredWord u m m′ h s s′ r → enteredOf r ≡ accepted x → x .reply ≡ newEntry k → u ≡ bytesOf w → WellFormed s q
+    → StoredSmaller m m′ s′ (length (registerBytes q)) w
+
 -- From a fresh register, any run of filings, each handed the register's bytes as the call before left them, answers
 -- each filing not refused as a plain list that keeps each element's first such filing, numbered from 1; and the
 -- accounts' counts sum to the filings given a new entry.
 abbrev pub History : Type 0
 History = (cs : List Entering) (s s′ : List ℕ) → Fresh s → Run cs s s′ → HistoryOf cs s′
 
--- Two filings of such a run that are answered with an entry meet the same one exactly when a chain joins their words.
+-- Two filings of such a run that are answered with an entry meet the same one exactly when a chain joins one word to
+-- the other, or to the other's inverse.
 abbrev pub SameEntry : Type 0
 SameEntry =
     (before between behind : List Entering) (c d : Entering) (s s′ : List ℕ) → Fresh s

@@ -85,3 +85,8 @@ BehindIsInFront =
 -- The form of the inverse has its sides exchanged.
 abbrev pub InverseExchanges : Type 0
 InverseExchanges = (w : Word) → formOf (inverse w) ≡ exchange (formOf w)
+
+-- 02, [7]: same and inverse hold together only of the identity: a word that a chain joins to its inverse is joined to
+-- the empty word.
+abbrev pub OnlyIdentityIsItsInverse : Type 0
+OnlyIdentityIsItsInverse = (w : Word) → Joined w (inverse w) → Joined w []

@@ -1,27 +1,26 @@
--- Two words: the answer and what is left, in each case. Assumes nothing.
+-- Two words: the answer and what is left, in each case; the records that are compared are framed. Assumes nothing.
 use mathlib.Core.Path.{_≡_, refl, sym, ap, ap₂, subst, _∙_}
-use mathlib.Core.Bool.{Bool, true, false}
+use mathlib.Core.Bool.{true}
 use mathlib.Core.List.{List}
 use Prim.Native.Nat.{ℕ}
 use lib.ListN.{take}
 use Rattle.group.specs.Letters.{Word}
+use Rattle.group.specs.Products.{formOf}
 use Rattle.refusals.specs.declared.Verdict.{Verdict}
 use Rattle.refusals.specs.declared.Verdict.the-variants.{Refused}
 use Rattle.refusals.specs.declared.Refusal.{Refusal}
 use Rattle.refusals.specs.Refusals.{numberOf, placeOf}
 use Rattle.refusals.specs.Outcomes.{Outcome, accepted, refused, dropValue, verdictOf}
 use Rattle.refusals.specs.Memory.{Memory}
-use Rattle.words.specs.Recording.{encodeWord, judgedWith, Left}
-use Rattle.words.specs.inside.Writing.{Accepts}
-use Rattle.lists.specs.SameBytes.{sameBytes}
-use Rattle.lists.proofs.SameBytes.{same-bytes, bytes-same}
-use Rattle.words.specs.Recording.{beside}
-use Rattle.comparisons.specs.Comparing.{decided, decisionOf, verdictBy}
-use Rattle.comparisons.specs.Comparing.{Compared}
-use Rattle.comparisons.specs.inside.Writing.{TwoWritten}
+use Rattle.records.specs.Reading.{frames}
+use Rattle.records.proofs.ReadBack.{frames-encode}
+use Rattle.words.specs.Recording.{judgedWith, Left, beside}
+use Rattle.words.specs.inside.Writing.{Accepts, WordWritten}
+use Rattle.words.proofs.Written.{left-kept, verdict-refused, front-record, record-inside}
+use Rattle.comparisons.specs.Comparing.{decided, verdictOn, Compared}
+use Rattle.comparisons.specs.inside.Writing.{Framed2, TwoWritten}
 use Rattle.comparisons.specs.declared.Comparison.{Comparison}
 use Rattle.comparisons.specs.declared.Comparison.the-variants.{First, Second}
-use Rattle.words.proofs.Written.{left-kept, verdict-refused, front-record}
 
 -- The first word is refused, whatever the second is.
 pub first-refused : (word1 : List ℕ) (m1 : Memory) (word2 : List ℕ) (m2 : Memory) (v : Verdict) (r : Refusal)
@@ -55,43 +54,36 @@ second-refused word1 m1 word2 m2 v r f h e =
       leaves2 = left-kept _ (numberOf r) (placeOf r) m2 (ap₂ beside so (f .judged-so));
     }
 
+-- The records that were written for two accepted words are framed, and lie inside their buffers.
+pub framed-two : {word1 word2 : List ℕ} {m1 m1′ m2 m2′ : Memory} {n k : ℕ} → Accepts word1 m1 → Accepts word2 m2
+    → WordWritten word1 m1 m1′ n → WordWritten word2 m2 m2′ k → Framed2 (m1′ .buffer) n (m2′ .buffer) k
+framed-two f1 f2 w1 w2 = record {
+  first-in = record-inside f1 w1;
+  second-in = record-inside f2 w2;
+  first-framed = framed f1 w1;
+  second-framed = framed f2 w2;
+}
+  where
+    framed : {word : List ℕ} {m m′ : Memory} {n : ℕ} → Accepts word m → WordWritten word m m′ n
+        → frames (take n (m′ .buffer)) ≡ true
+    framed {word} {m} {m′} {n} f w =
+        ap frames (front-record word m m′ n f w .1) ∙ frames-encode (formOf (f .letters))
+
 -- Both words are accepted and written.
-module _ (word1 : List ℕ) (m1 m1′ : Memory) (word2 : List ℕ) (m2 m2′ : Memory) (f1 : Accepts word1 m1)
-    (f2 : Accepts word2 m2) (r : Bool) (w : TwoWritten word1 m1 m1′ word2 m2 m2′ r) where
-  agree : r ≡ sameBytes (encodeWord (f1 .letters)) (encodeWord (f2 .letters))
-  agree = go r refl (sameBytes (encodeWord (f1 .letters)) (encodeWord (f2 .letters))) refl
-    where
-      one : take (w .first) (m1′ .buffer) ≡ encodeWord (f1 .letters)
-      one = front-record word1 m1 m1′ (w .first) f1 (w .written1) .1
-
-      two : take (w .second) (m2′ .buffer) ≡ encodeWord (f2 .letters)
-      two = front-record word2 m2 m2′ (w .second) f2 (w .written2) .1
-
-      go : (p : Bool) → r ≡ p → (q : Bool) → sameBytes (encodeWord (f1 .letters)) (encodeWord (f2 .letters)) ≡ q
-          → p ≡ q
-      go true e true k = refl
-      go false e false k = refl
-      go true e false k =
-          let eq = sym one ∙ w .says .same-if e ∙ two in
-          sym
-          (sym k
-          ∙ ap (λ (l : List ℕ). sameBytes (encodeWord (f1 .letters)) l) (sym eq)
-          ∙ bytes-same (encodeWord (f1 .letters)))
-      go false e true k =
-          let eq = same-bytes (encodeWord (f1 .letters)) (encodeWord (f2 .letters)) k in
-          sym e ∙ w .says .if-same (one ∙ eq ∙ sym two)
-
-  pub both-written : (c : Comparison) → decisionOf c ≡ verdictBy r
-      → Compared word1 m1 m1′ word2 m2 m2′ c
-  both-written c d = record {
-    result =
-        d
-        ∙ ap verdictBy agree
-        ∙ sym (ap₂ decided (f1 .judged-so) (f2 .judged-so));
-    leaves1 = own m1 m1′ word1 (w .written1 .leaves) (sym (ap (beside (judgedWith word1 m1)) (f2 .judged-so)));
-    leaves2 = own m2 m2′ word2 (w .written2 .leaves) (sym (ap (beside (judgedWith word2 m2)) (f1 .judged-so)));
-  }
-    where
-      own : (m m′ : Memory) (word : List ℕ) {o : Outcome Word} → Left (judgedWith word m) m m′
-          → judgedWith word m ≡ o → Left o m m′
-      own m m′ word left e = subst (λ (o : Outcome Word). Left o m m′) e left
+pub both-written : (word1 : List ℕ) (m1 m1′ : Memory) (word2 : List ℕ) (m2 m2′ : Memory) → Accepts word1 m1
+    → Accepts word2 m2 → (r : Comparison) → TwoWritten word1 m1 m1′ word2 m2 m2′ r
+    → Compared word1 m1 m1′ word2 m2 m2′ r
+both-written word1 m1 m1′ word2 m2 m2′ f1 f2 r w = record {
+  result =
+      w .says
+      ∙ ap₂ verdictOn
+      (front-record word1 m1 m1′ (w .first) f1 (w .written1) .1)
+      (front-record word2 m2 m2′ (w .second) f2 (w .written2) .1)
+      ∙ sym (ap₂ decided (f1 .judged-so) (f2 .judged-so));
+  leaves1 = own m1 m1′ word1 (w .written1 .leaves) (sym (ap (beside (judgedWith word1 m1)) (f2 .judged-so)));
+  leaves2 = own m2 m2′ word2 (w .written2 .leaves) (sym (ap (beside (judgedWith word2 m2)) (f1 .judged-so)));
+}
+  where
+    own : (m m′ : Memory) (word : List ℕ) {o : Outcome Word} → Left (judgedWith word m) m m′
+        → judgedWith word m ≡ o → Left o m m′
+    own m m′ word left e = subst (λ (o : Outcome Word). Left o m m′) e left

@@ -1,2 +1,3 @@
 -- Laws of two words.
 pub mod Compared
+pub mod Verdicts

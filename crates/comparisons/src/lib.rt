@@ -1,32 +1,24 @@
-// Two words: same or different by their records. Both are judged before anything is written, and nothing that was lent
-// is touched on a refusal.
-ghost use mathlib.Core.Path.{_≡_};
+// Two words: same, inverse or different by their records. Both are judged before anything is written, and nothing that
+// was lent is touched on a refusal.
 ghost use Rattle.refusals.specs.Memory.{memory};
-ghost use Rattle.comparisons.specs.Comparing.{decisionOf, verdictBy, Compared};
+ghost use Rattle.comparisons.specs.Comparing.{Compared};
 use refusals::Refusal;
 use refusals::Verdict;
 
 mod writing;
 
-// Whether two words have one record, or a refusal of the first or of the second.
+// Whether two words have one record, or the one's is the other's with its sides exchanged, or neither; or a refusal of
+// the first or of the second.
 pub enum Comparison {
     Same,
+    Inverse,
     Different,
     First(Refusal),
     Second(Refusal),
 }
 
-// The verdict of two accepted words.
-fn verdict(same: bool) -> Comparison
-    ensures { λ r. ⌜ decisionOf r ≡ verdictBy same ⌝ }
-{
-    if same {
-        return Comparison::Same;
-    }
-    Comparison::Different
-}
-
-// Two words: same or different by their records. Both are judged before anything is written, the first word first.
+// Two words: same, inverse or different by their records. Both are judged before anything is written, the first word
+// first.
 pub fn same_element(
     word1: &[u8],
     b_table1: &mut [u16],
@@ -52,7 +44,7 @@ pub fn same_element(
     if let Verdict::Refused(r) = second {
         return Comparison::Second(r);
     }
-    let same = writing::write_two(
+    writing::write_two(
         word1,
         b_table1,
         a_table1,
@@ -61,6 +53,5 @@ pub fn same_element(
         b_table2,
         a_table2,
         record2,
-    );
-    verdict(same)
+    )
 }

@@ -1,11 +1,12 @@
-// The tables and the records of two words that were accepted.
+// The tables and the records of two words that were accepted, and the verdict on them.
 ghost use mathlib.Core.Path.{_≡_};
-ghost use Prim.Native.Nat.{_≤_};
-ghost use lib.ListN.{length, take};
+ghost use lib.ListN.{take};
 ghost use Rattle.refusals.specs.Memory.{memory};
 ghost use Rattle.words.specs.inside.Writing.{Accepts};
 ghost use Rattle.words.specs.inside.Lending.{bytesIn};
-ghost use Rattle.comparisons.specs.inside.Writing.{SaysSame, TwoWritten};
+ghost use Rattle.comparisons.specs.Comparing.{decisionOf, verdictOn};
+ghost use Rattle.comparisons.specs.inside.Writing.{Framed2, TwoWritten};
+use crate::Comparison;
 use forest::CELLS;
 use forest::ROOM;
 use words::Recording;
@@ -22,12 +23,18 @@ fn bytes_in(recording: Recording) -> usize
     }
 }
 
-// Whether the first n bytes of one buffer are the first m of another.
-fn same_bytes(record1: &[u8], n: usize, record2: &[u8], m: usize) -> bool
-    requires { ⌜ (n ≤ length (now record1)) × (m ≤ length (now record2)) ⌝ }
-    ensures { λ r. ⌜ SaysSame (take n (now (record1 .entry))) (take m (now (record2 .entry))) r ⌝ }
+// The verdict on two records, the first n bytes of one buffer and the first m of another.
+fn verdict(record1: &[u8], n: usize, record2: &[u8], m: usize) -> Comparison
+    requires { ⌜ Framed2 (now record1) n (now record2) m ⌝ }
+    ensures { λ r. ⌜ decisionOf r ≡ verdictOn (take n (now (record1 .entry))) (take m (now (record2 .entry))) ⌝ }
 {
-    check::same(&record1[..n], &record2[..m])
+    if check::same(&record1[..n], &record2[..m]) {
+        return Comparison::Same;
+    }
+    if records::is_exchange(&record1[..n], &record2[..m]) {
+        return Comparison::Inverse;
+    }
+    Comparison::Different
 }
 
 // The tables and the records of two words; the second word finds the scratch as the first left it.
@@ -40,7 +47,7 @@ pub fn write_two(
     b_table2: &mut [u16],
     a_table2: &mut [u16],
     record2: &mut [u8],
-) -> bool
+) -> Comparison
     requires { ⌜ Accepts (now word1) (memory (now «b_table1») (now «a_table1») (now record1)) ⌝ }
     requires { ⌜ Accepts (now word2) (memory (now «b_table2») (now «a_table2») (now record2)) ⌝ }
     ensures { λ r. ⌜ TwoWritten (now (word1 .entry))
@@ -71,5 +78,5 @@ pub fn write_two(
         &mut rights,
         &mut stack,
     );
-    same_bytes(record1, bytes_in(first), record2, bytes_in(second))
+    verdict(record1, bytes_in(first), record2, bytes_in(second))
 }

@@ -1,9 +1,9 @@
 -- The form of an inverse is the form with its sides exchanged, and a letter put behind a form is its inverse put in
 -- front, between two exchanges. The letters of an exchanged form are the inverse of the form's letters, letter for
--- letter. Assumes nothing.
+-- letter. Only the identity is its own inverse. Assumes nothing.
 use mathlib.Core.Path.{_≡_, refl, sym, _∙_, ap, ap₂, _≡⟨_⟩_, _∎}
 use mathlib.Core.List.{[], _∷_, _++_}
-use mathlib.Core.Logic.{inl, inr}
+use mathlib.Core.Logic.{inl, inr, ⊎-elim}
 use Prim.Native.Nat.{ℕ, zero, suc}
 use native.Mathlib.Omega.{arith}
 use Rattle.lists.specs.Copies.{copies}
@@ -11,14 +11,14 @@ use Rattle.lists.proofs.Copies.{copies-past}
 use Rattle.group.specs.Letters.{Letter, Word, inverseLetter, inverse}
 use Rattle.group.specs.Chains.{Joined}
 use Rattle.group.specs.Forms.{Side, bSide, aSide, Form, empty, level, generator, exponent, Trimmed, ascending}
-use Rattle.group.specs.Forms.{descending, letters}
+use Rattle.group.specs.Forms.{descending, letters, levels, exponentSum}
 use Rattle.group.specs.Reducing.{Occurs, Reduced}
 use Rattle.group.specs.Products.{timesLetter, formOf, exchange, behindLetter}
 use Rattle.group.proofs.Congruence.{_≈_, _⟫_, ≈-path, ≈-back, ≈→joined}
 use Rattle.group.proofs.Inverses.{inverse-letter-twice, inverse-append, inverse-twice, inverse-cong, eight-pairs}
 use Rattle.group.proofs.Products.{times-letter-sound, form-sound}
 use Rattle.group.proofs.Reduced.{Canonical, letter-canonical, form-canonical}
-use Rattle.group.proofs.Theorems.{the-form-joined}
+use Rattle.group.proofs.Theorems.{the-form-joined, forms↔joined}
 
 abbrev otherSide : Side → Side
 otherSide bSide = aSide
@@ -47,6 +47,32 @@ exchange-trimmed (level b a (level c d f)) t = exchange-trimmed (level c d f) t
 pub exchange-canonical : (f : Form) → Canonical f → Canonical (exchange f)
 exchange-canonical f c =
     record { reduced = exchange-reduced f (c .reduced); trimmed = exchange-trimmed f (c .trimmed) }
+
+-- Exchanged twice, a form is as it was; the exponents sum to the same.
+pub exchange-twice : (f : Form) → exchange (exchange f) ≡ f
+exchange-twice empty = refl
+exchange-twice (level b a f) = ap (level b a) (exchange-twice f)
+
+pub exchange-sum : (f : Form) → exponentSum (exchange f) ≡ exponentSum f
+exchange-sum empty = refl
+exchange-sum (level b a f) = omega (arith, exchange-sum f)
+
+-- Only the empty form equals its exchange: at the highest index both exponents would be the same and not 0, and the
+-- clause is broken there.
+pub exchange-fixed : (f : Form) → Canonical f → exchange f ≡ f → f ≡ empty
+exchange-fixed empty c e = refl
+exchange-fixed (level b a empty) c e =
+    let same : b ≡ a = ap (λ (g : Form). exponent aSide g 0) e in
+    absurd (⊎-elim (λ h. omega arith) (λ h. omega arith) (c .reduced 0 (omega (arith, same, c .trimmed))
+    (omega (arith, same, c .trimmed))))
+exchange-fixed (level b a (level x y f)) c e =
+    let above : Canonical (level x y f) = record { reduced = λ i. c .reduced (suc i); trimmed = c .trimmed } in
+    let none : level x y f ≡ empty = exchange-fixed (level x y f) above (ap above-first e) in
+    absurd (omega (arith, ap levels none))
+  where
+    above-first : Form → Form
+    above-first empty = empty
+    above-first (level u v g) = g
 
 -- The inverse of a power.
 inverse-copies : (n : ℕ) (w : Word) → inverse (copies n w) ≡ copies n (inverse w)
@@ -115,3 +141,9 @@ form-behind w x =
     sym
     (the-form-joined (w ++ (x ∷ [])) (behindLetter (formOf w) x) (c .reduced) (c .trimmed)
     (≈→joined (behind-sound (formOf w) x ⟫ ≈-back (form-sound w) (x ∷ []))))
+
+-- A word that a chain joins to its inverse is joined to the empty word.
+pub self-inverse : (w : Word) → Joined w (inverse w) → Joined w []
+self-inverse w h =
+    let fixed : exchange (formOf w) ≡ formOf w = sym (form-inverse w) ∙ sym (forms↔joined w (inverse w) .1 h) in
+    forms↔joined w [] .0 (exchange-fixed (formOf w) (form-canonical w) fixed)

@@ -36,3 +36,18 @@ frame-opens s b a e = go (frames s) refl e
         let second : aLength s ≡ a = cc in
         record { first = sym first; second = sym second; whole = omega (arith, first, second, frames→frame s t .ends) }
     go false t h = let w : _≡_ {A = ℕ} 0 1 = cc in absurd (omega arith)
+
+-- What the frame that was read says of the tests.
+pub exact-frames : (s : List ℕ) (b a : ℕ) → frameOf s ≡ Exact b a → frames s ≡ true
+exact-frames s b a e = go (frames s) refl e
+  where
+    go : (p : Bool) → frames s ≡ p → cond p (Exact (bLength s) (aLength s)) Broken ≡ Exact b a → frames s ≡ true
+    go true t h = t
+    go false t h = let w : _≡_ {A = ℕ} 0 1 = cc in absurd (omega arith)
+
+pub broken-frames : (s : List ℕ) → frameOf s ≡ Broken → frames s ≡ false
+broken-frames s e = go (frames s) refl e
+  where
+    go : (p : Bool) → frames s ≡ p → cond p (Exact (bLength s) (aLength s)) Broken ≡ Broken → frames s ≡ false
+    go true t h = let w : _≡_ {A = ℕ} 0 1 = cc in absurd (omega arith)
+    go false t h = t

@@ -37,3 +37,10 @@ pub mod Checks
 pub mod Decodings
 -- the exponents of a record in tables of zeros
 pub mod ClearedTables
+-- byte order; the record with its sides exchanged
+pub mod ByteOrder
+pub mod BelowTurns
+pub mod Exchanges
+pub mod Sides
+pub mod SmallerRecords
+pub mod ExchangeAnswers

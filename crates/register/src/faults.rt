@@ -1,7 +1,7 @@
 // Why bytes are no register, in words. The crate `registers` tells that they are none; here the first fault is looked
 // for, by the entries in order.
 use crate::parts;
-use refusals::Verdict;
+use records::Smallness;
 use registers::EntryAt;
 use registers::FIRST_SIZE;
 use registers::Heading;
@@ -20,15 +20,6 @@ pub fn is_sound(register: &[u8]) -> bool {
     match overview {
         SummaryOf::Register(_) => true,
         SummaryOf::Refused(_) => false,
-    }
-}
-
-// Whether bytes are a record.
-fn is_record(record: &[u8]) -> bool {
-    let verdict = records::check_record(record);
-    match verdict {
-        Verdict::Accepted => true,
-        Verdict::Refused(_) => false,
     }
 }
 
@@ -56,6 +47,29 @@ fn say_at(fd: i32, at: usize, remark: &[u8]) -> bool {
     false
 }
 
+// Says that an entry, named by its number, has a record that comes behind its exchange.
+fn say_greater(fd: i32, number: u32) -> bool {
+    say(fd, b"entry ");
+    io::print_decimal(fd, number as u64);
+    io::write_all(
+        fd,
+        b" has the greater of two records; made before this rule\n",
+    );
+    false
+}
+
+// Whether an entry's record may be stored: well-formed, and not above the record with its sides exchanged.
+fn judge_record(fd: i32, at: usize, number: u32, record: &[u8]) -> bool {
+    let smallness = records::is_smaller(record);
+    let Smallness::Smaller(smaller) = smallness else {
+        return say_at(fd, at, b" has no well-formed record\n");
+    };
+    if !smaller {
+        return say_greater(fd, number);
+    }
+    true
+}
+
 // Whether an entry is right, beside those before it; says so if not.
 fn judge(fd: i32, at: usize, register: &[u8], h: Heading, low: u32, last: u32) -> bool {
     let record = parts::between(register, h.start, h.next);
@@ -69,8 +83,8 @@ fn judge(fd: i32, at: usize, register: &[u8], h: Heading, low: u32, last: u32) -
     if h.number > last {
         return say_at(fd, at, b" has a number above the last given\n");
     }
-    if !is_record(record) {
-        return say_at(fd, at, b" has no well-formed record\n");
+    if !judge_record(fd, at, h.number, record) {
+        return false;
     }
     if !is_first(register, record, h.number) {
         return say_at(fd, at, b" has the record of an entry before it\n");

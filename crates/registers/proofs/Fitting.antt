@@ -16,7 +16,6 @@ use Rattle.refusals.specs.declared.Refusal.the-variants.{BadRegister}
 use Rattle.refusals.specs.declared.Verdict.{Verdict}
 use Rattle.refusals.specs.declared.Verdict.the-variants as Verdicts
 use Rattle.refusals.specs.Outcomes.{Outcome, accepted, refused, dropValue, refusal, verdictOf}
-use Rattle.records.specs.Reading.{decode}
 use Rattle.registers.specs.declared.EntryAt.{EntryAt}
 use Rattle.registers.specs.declared.EntryAt.the-variants as Entries
 use Rattle.registers.specs.declared.Heading.{Heading}
@@ -24,7 +23,7 @@ use Rattle.registers.specs.declared.Search.{Search}
 use Rattle.registers.specs.declared.Search.the-variants.{Number}
 use Rattle.registers.specs.declared.SummaryOf.the-variants as Summaries
 use Rattle.registers.specs.Format.{liveMost}
-use Rattle.registers.specs.Reading.{numberIn, holderIn, recordIn}
+use Rattle.registers.specs.Reading.{numberIn, holderIn, recordIn, storedIn}
 use Rattle.registers.specs.Finding.{found}
 use Rattle.registers.specs.Answers.{searchOf}
 use Rattle.registers.specs.inside.Steps.{EntryHead, accepts, foundIn, foundAbove, isNew, entryFits, endedBy}
@@ -54,23 +53,6 @@ ended-low r last at low live e lt = rw e (simp (lt-ltb last low lt))
 pub ended-at : (r : EntryAt) (last at low live : ℕ) → r ≡ Entries.End → low ≤ last
     → Summaries.Register (record { last = last; end = at; live = live }) ≡ endedBy r last at low live
 ended-at r last at low live e le = rw e (simp (le-ltb last low le))
-
--- The record check accepts, and refuses.
-pub check-accepts : {A : Type 0} (o : Outcome A) (r : Verdict) → verdictOf r ≡ dropValue o → r ≡ Verdicts.Accepted
-    → true ≡ accepts o
-check-accepts (accepted x) r e is = refl
-check-accepts (refused n p) r e is =
-    let q : _≡_ {A = Outcome ℕ} (accepted 0) (refused n p) = ap verdictOf (sym is) ∙ e in
-    let z : _≡_ {A = ℕ} 0 1 = cc in
-    absurd (omega arith)
-
-pub check-refuses : {A : Type 0} (o : Outcome A) (r : Verdict) (w : Refusal) → verdictOf r ≡ dropValue o
-    → r ≡ Verdicts.Refused w → false ≡ accepts o
-check-refuses (accepted x) r w e is =
-    let q : _≡_ {A = Outcome ℕ} (refusal w) (accepted 0) = ap verdictOf (sym is) ∙ e in
-    let z : _≡_ {A = ℕ} 0 1 = cc in
-    absurd (omega arith)
-check-refuses (refused n p) r w e is = refl
 
 -- Whether a record is new: by its two places, else by the search.
 module _ (s bytes table : List ℕ) (low x : ℕ) (p : x ≡ fingerprint bytes) where
@@ -133,21 +115,21 @@ module _ {s : List ℕ} {at : ℕ} {h : Heading} {x : ℕ} (e : EntryHead s at h
   above-low : low < h .number → ltb low (numberIn (drop at s)) ≡ true
   above-low lt = lt-ltb low (numberIn (drop at s)) (omega (arith, number-is))
 
-  record-is : (r : Bool) → r ≡ accepts (decode bytes) → accepts (decode (recordIn (drop at s))) ≡ r
-  record-is r a = ap (λ (l : List ℕ). accepts (decode l)) (sym bytes-are) ∙ sym a
+  record-is : (r : Bool) → r ≡ accepts (storedIn bytes) → accepts (storedIn (recordIn (drop at s))) ≡ r
+  record-is r a = ap (λ (l : List ℕ). accepts (storedIn l)) (sym bytes-are) ∙ sym a
 
-  pub fits-broken : low < h .number → (r : Bool) → r ≡ accepts (decode bytes) → r ≡ false
+  pub fits-broken : low < h .number → (r : Bool) → r ≡ accepts (storedIn bytes) → r ≡ false
       → false ≡ entryFits s at low table
   fits-broken lt r a b = simp (above-low lt, record-is r a ∙ b)
 
-  pub fits-many : low < h .number → (r : Bool) → r ≡ accepts (decode bytes) → r ≡ true → (n : ℕ)
+  pub fits-many : low < h .number → (r : Bool) → r ≡ accepts (storedIn bytes) → r ≡ true → (n : ℕ)
       → n ≡ countAt table (h .holder) → liveMost ≤ n → false ≡ entryFits s at low table
   fits-many lt r a b n c le =
       let many : liveMost ≤ countAt table (holderIn (drop at s)) =
       omega (arith, c ∙ ap (λ (k : ℕ). countAt table k) holder-is) in
       simp (above-low lt, record-is r a ∙ b, le-ltb (countAt table (holderIn (drop at s))) liveMost many)
 
-  pub fits-new : low < h .number → (r : Bool) → r ≡ accepts (decode bytes) → r ≡ true → (n : ℕ)
+  pub fits-new : low < h .number → (r : Bool) → r ≡ accepts (storedIn bytes) → r ≡ true → (n : ℕ)
       → n ≡ countAt table (h .holder) → n < liveMost → (q : Bool) → q ≡ isNew s bytes table low
       → q ≡ entryFits s at low table
   fits-new lt r a b n c few q d =

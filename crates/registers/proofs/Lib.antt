@@ -3,7 +3,8 @@
 -- counts of entries; the sum of the holders' live entries
 pub mod Counts
 pub mod Sums
--- a register that was stored is read back; what is read was written
+-- stored records; a register that was stored is read back; what is read was written
+pub mod StoredRecords
 pub mod ReadBack
 pub mod Written
 -- the tests are the paper's sentences

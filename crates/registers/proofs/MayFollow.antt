@@ -15,10 +15,9 @@ use Rattle.group.specs.Forms.{Form}
 use Rattle.refusals.specs.Outcomes.{Outcome, accepted}
 use Rattle.clause.specs.Clause.{both}
 use Rattle.records.specs.Format.{encode}
-use Rattle.records.specs.Reading.{decode}
 use Rattle.registers.specs.Format.{Entry, firstSize, liveMost, entriesBytes}
-use Rattle.registers.specs.Reading.{entrySize, entryStands, numberIn, holderIn, recordIn, anyHolds}
-use Rattle.registers.specs.Reading.{live, lastNumber, mayFollow, follow}
+use Rattle.registers.specs.Reading.{entrySize, entryStands, numberIn, holderIn, recordIn, storedIn}
+use Rattle.registers.specs.Reading.{anyHolds, live, lastNumber, mayFollow, follow}
 use Rattle.registers.specs.Finding.{findIn, found}
 use Rattle.registers.specs.inside.Steps.{fingerprint, tableSize, lowPlace, highPlace, accepts, foundAbove}
 use Rattle.registers.specs.inside.Steps.{isNew, entryFits, mark, countAt}
@@ -94,18 +93,18 @@ module _ (s t : List ℕ) (before : List Entry) (f : Form)
 
     -- All tests of the entry are the rule.
     pub fits-may : (at : ℕ) → t ≡ drop at s → length (entriesBytes before) ≤ length s → holderIn t < tableSize
-        → decode (recordIn t) ≡ accepted f
+        → storedIn (recordIn t) ≡ accepted f
         → entryFits s at low table
         ≡ mayFollow before (record { number = numberIn t; holder = holderIn t; form = f })
     fits-may at e le two good =
         ap (λ (u : List ℕ).
         both (ltb low (numberIn u))
-        (both (accepts (decode (recordIn u)))
+        (both (accepts (storedIn (recordIn u)))
         (both (ltb (countAt table (holderIn u)) liveMost) (isNew s (recordIn u) table low))))
         (sym e)
         ∙ go (ltb low (numberIn t)) refl (ltb (lastNumber 0 before) (numberIn t))
         (ap (λ (n : ℕ). ltb n (numberIn t)) lowest)
-        (accepts (decode (recordIn t))) (ap (λ (o : Outcome Form). accepts o) good)
+        (accepts (storedIn (recordIn t))) (ap (λ (o : Outcome Form). accepts o) good)
         (ltb (countAt table (holderIn t)) liveMost)
         (ap (λ (n : ℕ). ltb n liveMost) (tabled .counted .counts (holderIn t) two))
         (isNew s (recordIn t) table low)

@@ -14,11 +14,10 @@ use Rattle.refusals.specs.Outcomes.{Outcome, accepted, refused, then}
 use Rattle.fields.specs.Fields.{twoBytes, twoAt, fourBytes, fourAt, headSize}
 use Rattle.fields.proofs.Numbers.{two-read, four-read}
 use Rattle.records.specs.Format.{encode}
-use Rattle.records.specs.Reading.{decode}
 use Rattle.registers.specs.Format.{Entry, Register, registerMost, numberSize, entryBase, firstSize}
 use Rattle.registers.specs.Format.{entryBytes, entriesBytes, registerBytes, stored}
-use Rattle.registers.specs.Reading.{ends, entrySize, numberIn, holderIn, recordIn, entryStands, entryOf}
-use Rattle.registers.specs.Reading.{readEntry, readEntries, sound, judgedEntries, readRegister}
+use Rattle.registers.specs.Reading.{ends, entrySize, numberIn, holderIn, recordIn, entryStands, storedIn}
+use Rattle.registers.specs.Reading.{entryOf, readEntry, readEntries, sound, judgedEntries, readRegister}
 
 -- An entry at the front of bytes.
 module _ (e : Entry) (rest : List ℕ) where
@@ -58,22 +57,22 @@ module _ (e : Entry) (rest : List ℕ) where
       go p q a b = rw a (rw b refl)
 
   -- It is read back.
-  pub entry-back : decode (encode (e .form)) ≡ accepted (e .form) → readEntry atFront ≡ accepted e
+  pub entry-back : storedIn (encode (e .form)) ≡ accepted (e .form) → readEntry atFront ≡ accepted e
   entry-back h =
-      go (entryStands atFront) one-stands (numberIn atFront) (holderIn atFront) (decode (recordIn atFront))
-      number-back holder-back (ap decode record-back ∙ h)
+      go (entryStands atFront) one-stands (numberIn atFront) (holderIn atFront) (storedIn (recordIn atFront))
+      number-back holder-back (ap storedIn record-back ∙ h)
     where
       go : (p : Bool) → p ≡ true → (n k : ℕ) (o : Outcome Form) → n ≡ e .number → k ≡ e .holder
           → o ≡ accepted (e .form) → cond p (entryOf n k o) (refused 12 0) ≡ accepted e
       go p hp n k o a b c = rw hp (rw a (rw b (rw c refl)))
 
--- Entries whose records are read back.
+-- Entries whose records are read back as stored ones.
 abbrev pub Readable : List Entry → Type 0
 Readable [] = Unit {0}
-Readable (e ∷ es) = (decode (encode (e .form)) ≡ accepted (e .form)) × Readable es
+Readable (e ∷ es) = (storedIn (encode (e .form)) ≡ accepted (e .form)) × Readable es
 
 entries-step : (e : Entry) (es : List Entry) (rest : List ℕ) (k : ℕ)
-    → decode (encode (e .form)) ≡ accepted (e .form) → readEntries k rest ≡ accepted es
+    → storedIn (encode (e .form)) ≡ accepted (e .form) → readEntries k rest ≡ accepted es
     → readEntries (suc k) (entryBytes e ++ rest) ≡ accepted (e ∷ es)
 unfolding readEntries
 entries-step e es rest k h g =

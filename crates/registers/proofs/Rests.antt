@@ -9,10 +9,9 @@ use lib.ListN.{drop}
 use lib.Dec.{ltb}
 use Rattle.group.specs.Forms.{Form}
 use Rattle.refusals.specs.Outcomes.{Outcome, accepted, refused, then}
-use Rattle.records.specs.Reading.{decode}
 use Rattle.registers.specs.Format.{Entry, Register}
-use Rattle.registers.specs.Reading.{ends, entrySize, entryStands, numberIn, holderIn, recordIn, entryOf}
-use Rattle.registers.specs.Reading.{readEntry}
+use Rattle.registers.specs.Reading.{ends, entrySize, entryStands, numberIn, holderIn, recordIn, storedIn}
+use Rattle.registers.specs.Reading.{entryOf, readEntry}
 use Rattle.registers.specs.Reading.{readEntries, notRegister, lastNumber, follow, judgedEntries}
 use Rattle.registers.proofs.Following.{follow-append}
 
@@ -26,14 +25,14 @@ pub data EntryRead (t : List ℕ) : Type 0 where
   one-read : (e : Entry) → readEntry t ≡ accepted e → EntryRead t
 
 pub entry-read : (t : List ℕ) → EntryRead t
-entry-read t = stands (entryStands t) refl (decode (recordIn t)) refl
+entry-read t = stands (entryStands t) refl (storedIn (recordIn t)) refl
   where
-    read : (b : Bool) (o : Outcome Form) → entryStands t ≡ b → decode (recordIn t) ≡ o
+    read : (b : Bool) (o : Outcome Form) → entryStands t ≡ b → storedIn (recordIn t) ≡ o
         → readEntry t ≡ cond b (entryOf (numberIn t) (holderIn t) o) notRegister
     read b o p q =
         ap₂ (λ (x : Bool) (y : Outcome Form). cond x (entryOf (numberIn t) (holderIn t) y) notRegister) p q
 
-    stands : (b : Bool) → entryStands t ≡ b → (o : Outcome Form) → decode (recordIn t) ≡ o → EntryRead t
+    stands : (b : Bool) → entryStands t ≡ b → (o : Outcome Form) → storedIn (recordIn t) ≡ o → EntryRead t
     stands true p (accepted f) q =
         one-read (record { number = numberIn t; holder = holderIn t; form = f }) (read true (accepted f) p q)
     stands true p (refused n k) q = none-read (read true (refused n k) p q)

@@ -15,12 +15,11 @@ use Rattle.group.specs.Forms.{Form}
 use Rattle.refusals.specs.Outcomes.{Outcome, accepted, refused, then}
 use Rattle.fields.specs.Fields.{Bytes, fourAt, headSize}
 use Rattle.clause.specs.Clause.{both}
-use Rattle.records.specs.Reading.{decode}
 use Rattle.records.proofs.Tests.{both-left, both-right, unless-fails, unless-passes}
 use Rattle.registers.specs.Format.{Entry, Register, firstSize, registerMost, liveMost, registerBytes, entryBytes}
 use Rattle.registers.specs.Format.{entriesBytes}
-use Rattle.registers.specs.Reading.{ends, entrySize, entryStands, numberIn, holderIn, recordIn, entryOf}
-use Rattle.registers.specs.Reading.{readEntry}
+use Rattle.registers.specs.Reading.{ends, entrySize, entryStands, numberIn, holderIn, recordIn, storedIn}
+use Rattle.registers.specs.Reading.{entryOf, readEntry}
 use Rattle.registers.specs.Reading.{readEntries, notRegister, live, lastNumber, mayFollow, follow}
 use Rattle.registers.specs.Reading.{firstStands, judgedEntries, readRegister}
 use Rattle.registers.specs.Answers.{overview, overviewIn, summaryOf}
@@ -166,7 +165,7 @@ module _ {s : List ℕ} {last at low : ℕ} {table : List ℕ} (p : Passing s la
     where
       go : (b : Bool) → b ≡ false
           → then
-          (cond b (entryOf (numberIn (drop at s)) (holderIn (drop at s)) (decode (recordIn (drop at s)))) notRegister)
+          (cond b (entryOf (numberIn (drop at s)) (holderIn (drop at s)) (storedIn (recordIn (drop at s)))) notRegister)
           (λ e. rest last (turn h .0) (drop (entrySize (drop at s)) (drop at s)) (p .before ++ (e ∷ [])))
           ≡ notRegister
       go b q = rw q refl
@@ -177,18 +176,18 @@ module _ {s : List ℕ} {last at low : ℕ} {table : List ℕ} (p : Passing s la
     entry f = record { number = numberIn (drop at s); holder = holderIn (drop at s); form = f }
 
     -- The reading of the entry here, by that of its record.
-    entry-so : (o : Outcome Form) → decode (recordIn (drop at s)) ≡ o
+    entry-so : (o : Outcome Form) → storedIn (recordIn (drop at s)) ≡ o
         → readEntry (drop at s) ≡ entryOf (numberIn (drop at s)) (holderIn (drop at s)) o
     entry-so o e =
         ap₂ (λ (b : Bool) (x : Outcome Form).
         cond b (entryOf (numberIn (drop at s)) (holderIn (drop at s)) x) notRegister) stands e
 
     -- What is known of an entry whose record is read.
-    stood : (f : Form) → decode (recordIn (drop at s)) ≡ accepted f → IsEntry (drop at s) (entry f)
+    stood : (f : Form) → storedIn (recordIn (drop at s)) ≡ accepted f → IsEntry (drop at s) (entry f)
     stood f e = entry-written (drop at s) (entry f) (bytes-drop s at (p .are-bytes)) (entry-so (accepted f) e)
 
     -- The tests are the rule.
-    may : (f : Form) → decode (recordIn (drop at s)) ≡ accepted f
+    may : (f : Form) → storedIn (recordIn (drop at s)) ≡ accepted f
         → entryFits s at low table ≡ mayFollow (p .before) (entry f)
     may f e =
         let here = stood f e in
@@ -208,12 +207,12 @@ module _ {s : List ℕ} {last at low : ℕ} {table : List ℕ} (p : Passing s la
 
     -- The entry here is refused: 12.
     pub passing-refused : entryFits s at low table ≡ false → readRegister s ≡ notRegister
-    passing-refused h = turn goes .2 ∙ go (decode (recordIn (drop at s))) refl
+    passing-refused h = turn goes .2 ∙ go (storedIn (recordIn (drop at s))) refl
       where
         behind : Entry → Outcome Register
         behind e = rest last (turn goes .0) (drop (entrySize (drop at s)) (drop at s)) (p .before ++ (e ∷ []))
 
-        go : (o : Outcome Form) → decode (recordIn (drop at s)) ≡ o
+        go : (o : Outcome Form) → storedIn (recordIn (drop at s)) ≡ o
             → then (readEntry (drop at s)) behind ≡ notRegister
         go (refused n q) e = ap (λ (x : Outcome Entry). then x behind) (entry-so (refused n q) e)
         go (accepted f) e =
@@ -223,13 +222,13 @@ module _ {s : List ℕ} {last at low : ℕ} {table : List ℕ} (p : Passing s la
 
     -- The record is read where the tests pass.
     read-so : entryFits s at low table ≡ true
-        → (f : Form) × (decode (recordIn (drop at s)) ≡ accepted f)
+        → (f : Form) × (storedIn (recordIn (drop at s)) ≡ accepted f)
     read-so h =
-        go (decode (recordIn (drop at s))) refl
-        (both-left (accepts (decode (recordIn (drop at s)))) _ (both-right (ltb low (numberIn (drop at s))) _ h))
+        go (storedIn (recordIn (drop at s))) refl
+        (both-left (accepts (storedIn (recordIn (drop at s)))) _ (both-right (ltb low (numberIn (drop at s))) _ h))
       where
-        go : (o : Outcome Form) → decode (recordIn (drop at s)) ≡ o → accepts o ≡ true
-            → (f : Form) × (decode (recordIn (drop at s)) ≡ accepted f)
+        go : (o : Outcome Form) → storedIn (recordIn (drop at s)) ≡ o → accepts o ≡ true
+            → (f : Form) × (storedIn (recordIn (drop at s)) ≡ accepted f)
         go (accepted f) e q = (f, e)
         go (refused n k) e q = absurd (true≢false (sym q))
 
@@ -248,7 +247,7 @@ module _ {s : List ℕ} {last at low : ℕ} {table : List ℕ} (p : Passing s la
       few =
           ltb-true (countAt table (holderIn (drop at s))) liveMost
           (both-left (ltb (countAt table (holderIn (drop at s))) liveMost) _
-          (both-right (accepts (decode (recordIn (drop at s)))) _ (both-right (ltb low (numberIn (drop at s))) _ h)))
+          (both-right (accepts (storedIn (recordIn (drop at s)))) _ (both-right (ltb low (numberIn (drop at s))) _ h)))
 
       -- One entry more.
       pub passing-more : (next x who number : ℕ) → next ≡ at + entrySize (drop at s)

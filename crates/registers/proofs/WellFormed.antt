@@ -17,6 +17,7 @@ use Rattle.group.specs.Forms.{Form}
 use Rattle.refusals.specs.Outcomes.{accepted}
 use Rattle.fields.specs.Fields.{Bytes}
 use Rattle.records.specs.Format.{encode, IsRecord}
+use Rattle.records.specs.Exchange.{isAbove}
 use Rattle.records.proofs.Accepted.{decode-form, record-decoded}
 use Rattle.records.proofs.Tests.{both-left, both-right, true-both, unless-fails, unless-passes, fails-unless}
 use Rattle.records.proofs.Tests.{neither-left, neither-right, fails-neither}
@@ -25,6 +26,7 @@ use Rattle.registers.specs.Reading.{ends, holdsForm, anyHolds, live, las
 use Rattle.registers.specs.Reading.{readRegister}
 use Rattle.registers.specs.WellFormed.{Rules, WellFormed}
 use Rattle.registers.proofs.Counts.{ownedBy, live-behind, live-more}
+use Rattle.registers.proofs.StoredRecords.{stored-parts, parts-stored}
 use Rattle.registers.proofs.ReadBack.{Readable, register-front}
 use Rattle.registers.proofs.Written.{Holds, register-written}
 
@@ -197,20 +199,29 @@ no-rules = record {
   four = λ h. omega arith;
 }
 
--- The records are read back just where they are records.
+-- The records are read back as stored ones just where they are records, and none is above its exchange.
 readable-at : (es : List Entry) → Readable es → (i : ℕ) (e : Entry) → At es i e → IsRecord (encode (e .form)) (e .form)
 readable-at [] h i e a = absurd a
 readable-at (x ∷ es) h zero e a =
     subst (λ (y : Entry). IsRecord (encode (y .form)) (y .form)) a
-    (let c = decode-form (encode (x .form)) (x .form) (h .0) in
+    (let c = decode-form (encode (x .form)) (x .form) (stored-parts (encode (x .form)) (x .form) (h .0) .0) in
     record { bytes = refl; within = c .1; reduced = c .0 .reduced; trimmed = c .0 .trimmed })
 readable-at (x ∷ es) h (suc i) e a = readable-at es (h .1) i e a
 
+readable-low : (es : List Entry) → Readable es → (i : ℕ) (e : Entry) → At es i e → isAbove (encode (e .form)) ≡ false
+readable-low [] h i e a = absurd a
+readable-low (x ∷ es) h zero e a =
+    subst (λ (y : Entry). isAbove (encode (y .form)) ≡ false) a
+    (stored-parts (encode (x .form)) (x .form) (h .0) .1)
+readable-low (x ∷ es) h (suc i) e a = readable-low es (h .1) i e a
+
 at-readable : (es : List Entry) → ((i : ℕ) (e : Entry) → At es i e → IsRecord (encode (e .form)) (e .form))
-    → Readable es
-at-readable [] h = tt
-at-readable (x ∷ es) h =
-    (record-decoded (encode (x .form)) (x .form) (h 0 x refl), at-readable es (λ i e a. h (suc i) e a))
+    → ((i : ℕ) (e : Entry) → At es i e → isAbove (encode (e .form)) ≡ false) → Readable es
+at-readable [] h low = tt
+at-readable (x ∷ es) h low = (
+  parts-stored (encode (x .form)) (x .form) (record-decoded (encode (x .form)) (x .form) (h 0 x refl)) (low 0 x refl),
+  at-readable es (λ i e a. h (suc i) e a) (λ i e a. low (suc i) e a),
+)
 
 -- A list that ends is none, or begins with a byte 00.
 pub ends-so : (t : List ℕ) → ends t ≡ true → (t ≡ []) ⊎ ((u : List ℕ) × (t ≡ 0 ∷ u))
@@ -238,6 +249,7 @@ holds-well-formed s r w =
       rules = rules;
       none-above = λ i e a. omega (arith, most (r .entries) i e rules a, low);
       readable = readable-at (r .entries) (w .readable);
+      not-above = readable-low (r .entries) (w .readable);
     }
 
 -- The register that is read is the one that the buffer is.
@@ -256,5 +268,6 @@ reads-well-formed s r b = ((λ h. holds-well-formed s r (register-written s r b 
         (le-ltb (r .last) (lastNumber 0 (r .entries)) (low w (last-at 0 (r .entries))))
         (rules→follow (r .entries) [] (w .rules)) in
         ap readRegister (w .bytes)
-        ∙ register-front r (w .behind) (at-readable (r .entries) (w .readable)) sounds (so-ends (w .behind) (w .ended))
+        ∙ register-front r (w .behind) (at-readable (r .entries) (w .readable) (w .not-above)) sounds
+        (so-ends (w .behind) (w .ended))
         (omega (arith, ap length (w .bytes), w .short))

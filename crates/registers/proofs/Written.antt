@@ -15,13 +15,14 @@ use Rattle.refusals.proofs.Outcomes.{accepted-same, accepted-refused}
 use Rattle.fields.specs.Fields.{Bytes, twoBytes, twoAt, fourBytes, fourAt, headSize}
 use Rattle.fields.proofs.Numbers.{two-written, four-written}
 use Rattle.records.specs.Format.{encode}
-use Rattle.records.specs.Reading.{decode}
 use Rattle.records.proofs.Accepted.{decode-accepts}
 use Rattle.records.proofs.Tests.{both-left, both-right, unless-fails, unless-passes}
 use Rattle.registers.specs.Format.{Entry, Register, lastTag, entryTag, numberSize, entryBase, firstSize}
 use Rattle.registers.specs.Format.{registerMost, entryBytes, entriesBytes, registerBytes, endMark, stored}
-use Rattle.registers.specs.Reading.{ends, entrySize, entryStands, numberIn, holderIn, recordIn, entryOf}
-use Rattle.registers.specs.Reading.{readEntry, readEntries, sound, firstStands, judgedEntries, readRegister}
+use Rattle.registers.specs.Reading.{ends, entrySize, entryStands, numberIn, holderIn, recordIn, storedIn}
+use Rattle.registers.specs.Reading.{entryOf, readEntry, readEntries, sound, firstStands}
+use Rattle.registers.specs.Reading.{judgedEntries, readRegister}
+use Rattle.registers.proofs.StoredRecords.{stored-parts}
 use Rattle.registers.proofs.ReadBack.{Readable, register-front, stored-front}
 use Rattle.registers.proofs.Sums.{Below}
 
@@ -45,7 +46,7 @@ pub record IsEntry (s : List ℕ) (e : Entry) : Type 0 where
   pub holder-is : e .holder ≡ holderIn s
   pub record-is : recordIn s ≡ encode (e .form)
   pub written : s ≡ entryBytes e ++ drop (entrySize s) s
-  pub readable : decode (encode (e .form)) ≡ accepted (e .form)
+  pub readable : storedIn (encode (e .form)) ≡ accepted (e .form)
   pub two-bytes : e .holder < 65536
   pub some-bytes : headSize + entryBase ≤ entrySize s
   pub room : entrySize s ≤ length s
@@ -67,7 +68,7 @@ entry-written s e b q = go (entryStands s) refl q
     six-on six = omega (arith, six)
 
     go : (p : Bool) → entryStands s ≡ p
-        → cond p (entryOf (numberIn s) (holderIn s) (decode (recordIn s))) (refused 12 0) ≡ accepted e → IsEntry s e
+        → cond p (entryOf (numberIn s) (holderIn s) (storedIn (recordIn s))) (refused 12 0) ≡ accepted e → IsEntry s e
     go false p k = absurd (accepted-refused (sym k))
     go true p k =
         let tag = eqb-true (getD s 0 0) entryTag (both-left (eqb (getD s 0 0) entryTag) _ p) in
@@ -75,12 +76,12 @@ entry-written s e b q = go (entryStands s) refl q
         let whole = unless-passes (ltb (length s) (entrySize s)) _ rest in
         let room = ltb-false (length s) (entrySize s) (unless-fails (ltb (length s) (entrySize s)) _ rest) in
         let six = ltb-false (twoAt s 1) entryBase (unless-fails (ltb (twoAt s 1) entryBase) true whole) in
-        let parts = entry-form (numberIn s) (holderIn s) (decode (recordIn s)) e k in
+        let parts = entry-form (numberIn s) (holderIn s) (storedIn (recordIn s)) e k in
         let behind-head : List ℕ = drop (headSize + entryBase) s in
         let inside : twoAt s 1 - entryBase ≤ length behind-head =
         omega (arith, room, six, length-drop (headSize + entryBase) s) in
         let are = bytes-take behind-head (twoAt s 1 - entryBase) inside (bytes-drop s (headSize + entryBase) b) in
-        let good = decode-accepts (recordIn s) (e .form) are (parts .2) in
+        let good = decode-accepts (recordIn s) (e .form) are (stored-parts (recordIn s) (e .form) (parts .2) .0) in
         let size : twoAt s 1 ≡ entryBase + length (encode (e .form)) =
         omega (arith, six, ap length (good .0), length-take-le (twoAt s 1 - entryBase) behind-head inside) in
         let behind : behind-head ≡ encode (e .form) ++ drop (entrySize s) s =
@@ -100,7 +101,7 @@ entry-written s e b q = go (entryStands s) refl q
               ∙ ap₂ (λ (x : ℕ) (l : List ℕ). fourBytes x ++ l) (sym (parts .0))
               (two-written s firstSize (headSize + entryBase) b refl (omega (arith, room, six))
               ∙ ap₂ (λ (x : ℕ) (l : List ℕ). twoBytes x ++ l) (sym (parts .1)) behind));
-          readable = ap decode (sym (good .0)) ∙ parts .2;
+          readable = ap storedIn (sym (good .0)) ∙ parts .2;
           two-bytes = omega (arith, parts .1, b firstSize, b (firstSize + 1));
           some-bytes = omega (arith, six);
           room = room;

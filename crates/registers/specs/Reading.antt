@@ -1,7 +1,8 @@
--- The reading of a register (02, [3]): its entries, or refusal 12.
+-- The reading of a register (02, [3] and [7]): its entries, or refusal 12.
 --     readEntries    the entries from a place on       sound last es   the rules on entries
 --     readRegister   the whole                         live h es       how many of the entries are the holder's
 --     mayFollow      the rule for one more entry       numberFor f es  the number of the entry with a form
+--     storedIn s     the form of a stored record
 -- Assumes nothing.
 use mathlib.Core.Bool.{Bool, true, false, cond}
 use mathlib.Core.List.{List, [], _∷_, _++_}
@@ -16,6 +17,7 @@ use Rattle.fields.specs.Fields.{twoAt, fourAt, headSize}
 use Rattle.clause.specs.Clause.{both}
 use Rattle.records.specs.Format.{encode}
 use Rattle.records.specs.Reading.{decode}
+use Rattle.records.specs.Exchange.{isAbove}
 use Rattle.registers.specs.Format.{Entry, Register, lastTag, entryTag, numberSize, entryBase, firstSize}
 use Rattle.registers.specs.Format.{registerMost, liveMost}
 
@@ -48,6 +50,10 @@ recordIn s = take (twoAt s 1 - entryBase) (drop (headSize + entryBase) s)
 abbrev pub notRegister : {A : Type 0} → Outcome A
 notRegister = refused 12 0
 
+-- The form of a record that is stored: one above the record with its sides exchanged is not.
+abbrev pub storedIn : List ℕ → Outcome Form
+storedIn s = then (decode s) (λ f. cond (isAbove s) notRegister (accepted f))
+
 -- The entry of a record's reading; a record that is refused makes it no register.
 abbrev pub entryOf : (number holder : ℕ) → Outcome Form → Outcome Entry
 entryOf number holder (accepted f) = accepted (record { number = number; holder = holder; form = f })
@@ -55,7 +61,7 @@ entryOf number holder (refused n p) = notRegister
 
 -- The entry at the front.
 abbrev pub readEntry : List ℕ → Outcome Entry
-readEntry s = cond (entryStands s) (entryOf (numberIn s) (holderIn s) (decode (recordIn s))) notRegister
+readEntry s = cond (entryStands s) (entryOf (numberIn s) (holderIn s) (storedIn (recordIn s))) notRegister
 
 -- The entries at the front, at most k: each takes bytes, so k is the number of bytes.
 unfoldable pub readEntries : ℕ → List ℕ → Outcome (List Entry)

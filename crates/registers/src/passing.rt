@@ -3,7 +3,7 @@
 ghost use mathlib.Core.Path.{_≡_};
 ghost use Prim.Native.Nat.{_%_, _<_};
 ghost use lib.ListN.{length};
-ghost use Rattle.records.specs.Reading.{decode};
+ghost use Rattle.registers.specs.Reading.{storedIn};
 ghost use Rattle.registers.specs.Answers.{Summarised};
 ghost use Rattle.registers.specs.inside.Steps.{accepts, isNew, entryFits, foundIn, foundAbove, endedBy};
 ghost use Rattle.registers.specs.inside.Steps.{EntryHead, Prepared, fingerprint, markedAt, marked, tableSize};
@@ -17,8 +17,8 @@ use crate::Search;
 use crate::SummaryOf;
 use crate::TABLE;
 use crate::prints;
+use records::Smallness;
 use refusals::Refusal;
-use refusals::Verdict;
 
 // Whether what a search found has a number above `low`, or nothing was found.
 fn above(search: Search, low: u32) -> bool
@@ -48,14 +48,14 @@ fn is_new(s: &[u8], bytes: &[u8], x: u32, table: &[u8; TABLE], low: u32) -> bool
     above(search, low)
 }
 
-// Whether the record check accepts.
+// Whether bytes are a record that is not above its exchange.
 fn is_record(bytes: &[u8]) -> bool
-    ensures { λ r. ⌜ r ≡ accepts (decode (now (bytes .entry))) ⌝ }
+    ensures { λ r. ⌜ r ≡ accepts (storedIn (now (bytes .entry))) ⌝ }
 {
-    let verdict = records::check_record(bytes);
-    match verdict {
-        Verdict::Accepted => true,
-        Verdict::Refused(_) => false,
+    let smallness = records::is_smaller(bytes);
+    match smallness {
+        Smallness::Smaller(smaller) => smaller,
+        Smallness::Refused(_) => false,
     }
 }
 

@@ -1,11 +1,12 @@
-// A filing of the run, and what a plain list says of it: each element's first filing has the next number, and a holder
-// has at most four.
+// A filing of the run, and what a plain list says of it: an element and its inverse are one, its first filing has the
+// next number, and a holder has at most four.
 use crate::answers;
 use crate::answers::Told;
 use crate::calling;
 use crate::calling::RECORD;
 use crate::calling::TABLE;
 use crate::kept;
+use crate::sides;
 use cases::fields;
 use cases::fields::Sizes;
 use cases::fields::field;
@@ -90,6 +91,15 @@ fn keep_new(told: Told, i: usize, record: &[u8], list: &mut [u8]) {
     }
 }
 
+// Whether a new entry stands at a place of the register with the record that the list keeps.
+fn stands(told: Told, at: usize, record: &[u8], register: &[u8]) -> bool {
+    if told.kind != b'n' {
+        return true;
+    }
+    let behind = parts::behind(register, wrapping_add_usize(at, 9));
+    check::same(parts::front(behind, record.len()), record)
+}
+
 // The first n bytes of a record buffer.
 fn front(record: &[u8; RECORD], n: usize) -> &[u8] {
     parts::front(record, n)
@@ -98,19 +108,17 @@ fn front(record: &[u8; RECORD], n: usize) -> &[u8] {
 // A word filed, with the sizes and the holder of a line.
 fn file(s: State, line: &[u8], word: &[u8], list: &mut [u8], register: &mut [u8]) -> Filed {
     let mut own = [0u8; RECORD];
+    let mut first = [0u8; RECORD];
     let holder = fields::holder(field(line, 5));
     let lent = fields::lent(line);
     let reply = own_record(word, lent, &mut own);
-    let record = front(&own, refusals::count_of(reply));
+    let n = sides::put_first(front(&own, refusals::count_of(reply)), &mut first);
+    let record = front(&first, n);
     let told = listed(s, reply, holder, record, list);
     let entered = calling::enter(word, lent, holder, register);
     keep_new(told, s.entries, record, list);
-    let state = after(
-        s,
-        told,
-        record.len(),
-        answers::same(answers::of(entered), told),
-    );
+    let right = answers::same(answers::of(entered), told) && stands(told, s.used, record, register);
+    let state = after(s, told, n, right);
     Filed { state, told }
 }
 

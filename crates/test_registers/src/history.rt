@@ -1,6 +1,6 @@
 // A run of filings from a fresh register, against a plain list that the program keeps. A line has a word, the sizes of
-// what is lent, and the holder. A letter is printed for each: n where the list has a new entry, o an old one, h where
-// the holder is full, f where the register is, w where the word is refused.
+// what is lent, and the holder, and may have a name behind a bar. A letter is printed for each: n where the list has a
+// new entry, o an old one, h where the holder is full, f where the register is, w where the word is refused.
 use crate::answers::Told;
 use crate::calling;
 use crate::filing;

@@ -16,6 +16,7 @@ mod history;
 mod kept;
 mod longest;
 mod odd;
+mod sides;
 
 // The most bytes of all cases.
 const INPUT: usize = 131072;

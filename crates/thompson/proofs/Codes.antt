@@ -16,7 +16,7 @@ use Rattle.refusals.specs.declared.Reply.the-variants as Replies
 use Rattle.refusals.specs.Refusals.{numberOf, placeOf}
 use Rattle.refusals.specs.Outcomes.{refused, refusal, verdictOf, replyOf}
 use Rattle.comparisons.specs.declared.Comparison.{Comparison}
-use Rattle.comparisons.specs.declared.Comparison.the-variants.{Same, Different, First, Second}
+use Rattle.comparisons.specs.declared.Comparison.the-variants.{Same, Inverse, Different, First, Second}
 use Rattle.comparisons.specs.Comparing.{refusedWord, decisionOf}
 use Rattle.packed.specs.declared.NodeEnd.{NodeEnd}
 use Rattle.packed.specs.declared.NodeEnd.the-variants as NodeEnds
@@ -84,6 +84,7 @@ node-end-read (NodeEnds.Refused r) = refusal-read r
 
 pub comparison-read : (c : Comparison) → decisionIn (codeOfDecision (decisionOf c)) ≡ decisionOf c
 comparison-read Same = refl
+comparison-read Inverse = refl
 comparison-read Different = refl
 comparison-read (First r) = read-word 0 (numberOf r) (placeOf r) (number-some r .0) (number-some r .1)
 comparison-read (Second r) = read-word 1 (numberOf r) (placeOf r) (number-some r .0) (number-some r .1)

@@ -7,7 +7,7 @@
 use mathlib.Core.Path.{_≡_}
 use Prim.Native.Nat.{ℕ, zero, suc, _+_, _*_, _/_, _%_}
 use Rattle.refusals.specs.Outcomes.{Outcome, accepted, refused, valued}
-use Rattle.comparisons.specs.Comparing.{Decision, same, different, refusedWord}
+use Rattle.comparisons.specs.Comparing.{Decision, same, inverse, different, refusedWord}
 use Rattle.updates.specs.declared.AccountOf.{AccountOf}
 use Rattle.updates.specs.Accounts.{accountOf}
 use Rattle.updates.specs.Entering.{Reply, newEntry, present, Answer as Entry, replyNumber}
@@ -23,9 +23,11 @@ abbrev pub codeOf : Outcome ℕ → Answer
 codeOf (accepted value) = answer 0 value
 codeOf (refused number place) = answer number place
 
--- The two numbers of a decision: 1 same, 0 different; 256 times the word (0 or 1) is added to a refusal's number.
+-- The two numbers of a decision: 1 same, 2 inverse, 0 different; 256 times the word (0 or 1) is added to a refusal's
+-- number.
 abbrev pub codeOfDecision : Decision → Answer
 codeOfDecision same = answer 0 1
+codeOfDecision inverse = answer 0 2
 codeOfDecision different = answer 0 0
 codeOfDecision (refusedWord word number place) = answer (256 * word + number) place
 
@@ -37,10 +39,11 @@ readOutcome (suc n) place = refused (suc n) place
 abbrev pub outcomeOf : Answer → Outcome ℕ
 outcomeOf r = readOutcome (r .refusal) (r .value)
 
--- Of two words: 1 is same, 0 different; the word, 0 or 1, is how often 256 is in a refusal.
+-- Of two words: 1 is same, 2 inverse, 0 different; the word, 0 or 1, is how often 256 is in a refusal.
 abbrev pub readDecision : (refusal value : ℕ) → Decision
 readDecision zero zero = different
-readDecision zero (suc value) = same
+readDecision zero (suc zero) = same
+readDecision zero (suc (suc value)) = inverse
 readDecision (suc n) place = refusedWord (suc n / 256) (suc n % 256) place
 
 abbrev pub decisionIn : Answer → Decision

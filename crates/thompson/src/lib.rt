@@ -94,7 +94,7 @@ fn second(r: Refusal) -> Answer
     }
 }
 
-// The value is 1 for the same element, 0 for different ones.
+// The value is 1 for the same element, 2 for inverse ones, 0 for others.
 fn from_comparison(c: Comparison) -> Answer
     ensures { λ s. ⌜ s ≡ codeOfDecision (decisionOf c) ⌝ }
 {
@@ -102,6 +102,10 @@ fn from_comparison(c: Comparison) -> Answer
         Comparison::Same => Answer {
             refusal: 0,
             value: 1,
+        },
+        Comparison::Inverse => Answer {
+            refusal: 0,
+            value: 2,
         },
         Comparison::Different => Answer {
             refusal: 0,

@@ -14,10 +14,9 @@ use Rattle.refusals.specs.declared.Refusal.the-variants.{BadRegister}
 use Rattle.refusals.specs.Outcomes.{Outcome, accepted, refused, then}
 use Rattle.refusals.proofs.Outcomes.{accepted-same, accepted-refused, refused-number, refused-place}
 use Rattle.records.specs.Format.{encode}
-use Rattle.records.specs.Reading.{decode}
 use Rattle.registers.specs.Format.{Register, registerBytes, numberMost, liveMost, firstSize}
-use Rattle.registers.specs.Reading.{ends, entrySize, entryStands, numberIn, holderIn, recordIn, entryOf, readEntry}
-use Rattle.registers.specs.Reading.{readEntries, sound, firstStands, readRegister, live, numberFor}
+use Rattle.registers.specs.Reading.{ends, entrySize, entryStands, numberIn, holderIn, recordIn, storedIn, entryOf}
+use Rattle.registers.specs.Reading.{readEntry, readEntries, sound, firstStands, readRegister, live, numberFor}
 use Rattle.registers.specs.Finding.{found}
 use Rattle.registers.specs.Answers.{overview, overviewIn, summaryOf, Summarised, searchOf}
 use Rattle.registers.specs.declared.Overview.{Overview}
@@ -64,7 +63,7 @@ only-entries zero s = only-accepted []
 only-entries (suc k) s =
     only-cond (ends s) (accepted []) _ (only-accepted [])
     (only-then (readEntry s) _
-    (only-cond (entryStands s) _ _ (only-entry (numberIn s) (holderIn s) (decode (recordIn s))) only-12)
+    (only-cond (entryStands s) _ _ (only-entry (numberIn s) (holderIn s) (storedIn (recordIn s))) only-12)
     (λ e. only-then (readEntries k (drop (entrySize s) s)) _ (only-entries k (drop (entrySize s) s))
     (λ es. only-accepted (e ∷ es))))
 

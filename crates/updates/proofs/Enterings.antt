@@ -1,5 +1,6 @@
 -- A filing, by its steps: a refused word, a refused filing, and what is committed. Assumes nothing.
 use mathlib.Core.Path.{_≡_, sym, ap, ap₂, _∙_, subst}
+use mathlib.Core.Bool.{true}
 use mathlib.Core.List.{List, [], _∷_}
 use mathlib.Core.Logic.{⊎-elim}
 use mathlib.Core.Option.{Option, none}
@@ -12,6 +13,7 @@ use types.Run.{OneOf}
 use denote.Enum.Declared.{tagOf}
 use Rattle.group.specs.Letters.{Word}
 use Rattle.group.specs.Forms.{Form, bSide, aSide}
+use Rattle.group.specs.Products.{formOf}
 use Rattle.refusals.specs.declared.Refusal.{Refusal}
 use Rattle.refusals.specs.declared.Reply as Numbers
 use Rattle.refusals.specs.declared.Verdict.{Verdict}
@@ -21,8 +23,13 @@ use Rattle.refusals.specs.inside.Verdicts.{countIn}
 use Rattle.refusals.specs.Memory.{Memory}
 use Rattle.fields.specs.Fields.{Bytes, fourBytes, headSize}
 use Rattle.records.specs.Format.{encode}
+use Rattle.records.specs.Reading.{frames}
+use Rattle.records.specs.Exchange.{smallerRecord}
+use Rattle.records.proofs.ReadBack.{frames-encode}
+use Rattle.records.proofs.Exchanges.{smaller-encode}
+use Rattle.records.proofs.SmallerRecords.{smaller-long}
 use Rattle.forest.specs.Filling.{tableAfter}
-use Rattle.words.specs.Recording.{bufferAfter, judgedWith, Left, Recorded}
+use Rattle.words.specs.Recording.{encodeWord, bufferAfter, judgedWith, Left, Recorded}
 use Rattle.words.specs.Recording.{beside}
 use Rattle.words.specs.inside.Writing.{Accepts}
 use Rattle.words.proofs.Written.{verdict-refused}
@@ -49,25 +56,26 @@ use Rattle.updates.proofs.Charging.{live-one}
 use Rattle.updates.proofs.Decisions.{answered-read, answered-new}
 use Rattle.updates.proofs.OwnRecords.{judged-own, own-front}
 
--- What a decision asks of the register is so.
-committable-as : (f : Form) (h : ℕ) (s bytes : List ℕ) → Bytes s → bytes ≡ encode f → (d : Decision)
-    → DecidedAs f h s d → Committable d bytes s
-committable-as f h s bytes b same (New p) i =
+-- What a decision asks of the register and of the record, the smaller of which with its exchange is stored, is so.
+committable-as : (f : Form) (h : ℕ) (s bytes : List ℕ) → Bytes s → frames bytes ≡ true
+    → smallerRecord bytes ≡ encode f → (d : Decision) → DecidedAs f h s d → Committable d bytes s
+committable-as f h s bytes b framed same (New p) i =
     let q = room-in s (i .register) h f (register-written s (i .register) b (i .reads)) (i .enters) in
     record {
-      room = omega (arith, q .room, i .end, ap length same);
+      framed = framed;
+      room = omega (arith, q .room, i .end, ap length same, smaller-long bytes framed);
       behind = omega (arith, q .behind, i .end);
       short = q .short;
       number = omega (arith, i .number, q .last-low);
       live = omega (arith, ap (λ (a : Account). a .live) (i .account), q .live-few);
     }
-committable-as f h s bytes b same (Present k a) i =
+committable-as f h s bytes b framed same (Present k a) i =
     omega (
       arith,
       ap (λ (x : Account). x .live) (i .account),
       reads-well-formed s (i .register) b .0 (i .reads) .rules .four h,
     )
-committable-as f h s bytes b same (Refused r) i = tt
+committable-as f h s bytes b framed same (Refused r) i = tt
 
 -- The place of a new entry in a register.
 abbrev placeIn : Register → ℕ → Place
@@ -178,23 +186,27 @@ module _ (word : List ℕ) (m : Memory) (h : ℕ) (s : List ℕ) (two : h < 6553
           nothing-entered r
           (entered-form ∙ subst (λ (q : Decision). DecidedAs (storedForm (f .letters)) h s q) e decided-so)
 
-      -- The bytes that are counted are the record of the form.
+      -- The bytes that are counted are the word's record, and the smaller of it and its exchange is that of the form.
       module _ {exit : Memory} {y : Numbers.Reply} {n : ℕ} (written : Recorded word m exit y)
           (counted : n ≡ countIn y) where
-        counted-record : take n (exit .buffer) ≡ encode (storedForm (f .letters))
-        counted-record =
+        own-record : take n (exit .buffer) ≡ encodeWord (f .letters)
+        own-record =
             ap (λ (k : ℕ). take k (exit .buffer)) counted ∙ own-front written (f .letters) (f .judged-so)
+
+        counted-record : smallerRecord (take n (exit .buffer)) ≡ encode (storedForm (f .letters))
+        counted-record = ap smallerRecord own-record ∙ smaller-encode (formOf (f .letters))
 
         pub committable : Committable d (take n (exit .buffer)) s
         committable =
-            committable-as (storedForm (f .letters)) h s (take n (exit .buffer)) bytes counted-record d decided-so
+            committable-as (storedForm (f .letters)) h s (take n (exit .buffer)) bytes
+            (ap frames own-record ∙ frames-encode (formOf (f .letters))) counted-record d decided-so
 
         -- What is committed is the filing.
         pub entered-so : {s′ : List ℕ} {r : Entered} → OneOf (0 ∷ 1 ∷ []) (tagOf Choice.the-type d)
-            → Committed d (take n (exit .buffer)) s s′ r → EnteredWord word m exit h s s′ r
+            → Committed d (smallerRecord (take n (exit .buffer))) s s′ r → EnteredWord word m exit h s s′ r
         entered-so {s′} {r} some-kind done =
             let form = storedForm (f .letters) in
-            let front = take n (exit .buffer) in
+            let front = smallerRecord (take n (exit .buffer)) in
             let filed = filed-as form h s s′ front r bytes counted-record d some-kind decided-so done in
             let so : enteredIn word m s h ≡ accepted (filed .found) = entered-form ∙ filed .answers in
             record {

@@ -11,10 +11,10 @@ use borrow.Author.Tests.{le-ltb, lt-ltb, ltb-false}
 use Rattle.group.specs.Forms.{Form}
 use Rattle.refusals.specs.Outcomes.{accepted}
 use Rattle.records.specs.Format.{encode}
-use Rattle.records.specs.Reading.{decode}
 use Rattle.records.proofs.Tests.{true-both, unless-fails, unless-passes, fails-unless}
 use Rattle.registers.specs.Format.{Entry, Register, liveMost, registerBytes, stored}
-use Rattle.registers.specs.Reading.{holdsForm, anyHolds, numberFor, live, lastNumber, mayFollow, follow, sound}
+use Rattle.registers.specs.Reading.{storedIn, holdsForm, anyHolds, numberFor, live, lastNumber, mayFollow, follow}
+use Rattle.registers.specs.Reading.{sound}
 use Rattle.registers.proofs.Counts.{last-behind}
 use Rattle.registers.proofs.Following.{follow-append}
 use Rattle.registers.proofs.Written.{Holds, stored-holds}
@@ -51,7 +51,7 @@ sound-one r h f s n l =
     ∙ true-both (follow [] (r .entries)) _ was (true-both (mayFollow (r .entries) e) true may refl))
 
 -- Its records are read back, and its holders have two bytes.
-readable-one : (es : List Entry) (e : Entry) → Readable es → decode (encode (e .form)) ≡ accepted (e .form)
+readable-one : (es : List Entry) (e : Entry) → Readable es → storedIn (encode (e .form)) ≡ accepted (e .form)
     → Readable (es ++ (e ∷ []))
 readable-one [] e h g = (g, tt)
 readable-one (x ∷ es) e h g = (h .0, readable-one es e (h .1) g)
@@ -62,7 +62,7 @@ below-one m (x ∷ es) e h g = (h .0, below-one m es e (h .1) g)
 
 -- So a buffer that held the register holds the one with the new entry, once that is stored, if it fits.
 pub grown-holds : (s : List ℕ) (r : Register) (h : ℕ) (f : Form) → Holds s r → numberFor f (r .entries) ≡ none
-    → live h (r .entries) < liveMost → decode (encode f) ≡ accepted f → h < 65536
+    → live h (r .entries) < liveMost → storedIn (encode f) ≡ accepted f → h < 65536
     → length (registerBytes (withEntry r h f)) ≤ length s → Holds (stored (withEntry r h f) s) (withEntry r h f)
 grown-holds s r h f w absent few read two fits =
     let e : Entry = record { number = suc (r .last); holder = h; form = f } in

@@ -21,9 +21,12 @@ use Rattle.refusals.specs.declared.Reply.{Reply}
 use Rattle.refusals.specs.declared.Reply.the-variants.{Number, Refused}
 use Rattle.refusals.specs.inside.Verdicts.{countIn}
 use Rattle.refusals.specs.Memory.{Memory}
+use Rattle.refusals.specs.Placing.{Placed}
 use Rattle.refusals.proofs.Outcomes.{accepted-same, accepted-refused}
 use Rattle.records.specs.Format.{bufferSize}
+use Rattle.records.specs.inside.Exchanging.{smallerIn}
 use Rattle.records.proofs.Lengths.{encode-size}
+use Rattle.records.proofs.SmallerRecords.{smaller-front}
 use Rattle.letters.specs.Judging.{judgedReading, judged}
 use Rattle.words.specs.Recording.{encodeWord, countRecord, bufferAfter, judgedRecord, judgedWith, Recorded}
 use Rattle.words.proofs.Judged.{accepted-record}
@@ -44,6 +47,19 @@ judged-own word nb na nr w h =
     ap (λ (o : Outcome Word). then o (λ v. cond (ltb (bufferSize limit) (bufferSize (length word))) (refused 7 0)
     (accepted v))) tables
     ∙ simp (le-ltb (bufferSize limit) (bufferSize (length word)) (omega arith))
+
+-- So is a buffer for its record.
+pub own-short : (word : List ℕ) (nb na nr : ℕ) (w : Word) → judgedRecord word nb na nr ≡ accepted w
+    → length (encodeWord w) ≤ bufferSize limit
+own-short word nb na nr w h =
+    let told = accepted-record word nb na nr w h in
+    omega (
+      arith,
+      encode-size (formOf w),
+      form-sum w,
+      told .fit .short,
+      read-length word w (told .fit .reads),
+    )
 
 -- The number of a reply.
 count-accepted : (r : Reply) (n : ℕ) → replyOf r ≡ accepted n → countIn r ≡ n
@@ -102,11 +118,17 @@ count-inside {word} {entry} {exit} {r} h = go (judgedWith word entry) refl
     go (accepted w) e = own-inside h w e
     go (refused n p) e = omega (arith, none-recorded h n p e)
 
--- A decision on them is one on the word.
-pub decided-with : {word : List ℕ} {entry exit : Memory} {r : Reply} {h n : ℕ} {s : List ℕ} {d : Decision}
-    → Recorded word entry exit r → n ≡ countIn r → Judged (take n (exit .buffer)) h s d → DecidedWith word entry h s d
-decided-with {word} {entry} {exit} {r} {h} {n} {s} {d} told e j = record {
+-- A decision on it is one on the word.
+pub decided-with : {word : List ℕ} {entry exit : Memory} {r q : Reply} {h n m : ℕ} {s out′ : List ℕ} {d : Decision}
+    (out : List ℕ) → Recorded word entry exit r → n ≡ countIn r
+    → Placed (smallerIn (take n (exit .buffer)) out) out out′ q → m ≡ countIn q → Judged (take m out′) h s d → DecidedWith word entry (length out) h s d
+decided-with {word} {entry} {exit} {r} {q} {h} {n} {m} {s} {out′} {d} out told e placed k j = record {
   are-bytes = j .are-bytes;
-  decides = λ w so. j .decides (storedForm w)
-      (ap (λ (k : ℕ). take k (exit .buffer)) e ∙ own-front told w so);
+  decides = λ w so room. j .decides (storedForm w)
+      (ap (λ (i : ℕ). take i out′) k
+      ∙ smaller-front (take n (exit .buffer)) out q placed (formOf w) (own w so)
+      (omega (arith, ap length (own w so), room)));
 }
+  where
+    own : (w : Word) → judgedWith word entry ≡ accepted w → take n (exit .buffer) ≡ encodeWord w
+    own w so = ap (λ (i : ℕ). take i (exit .buffer)) e ∙ own-front told w so

@@ -8,8 +8,14 @@ use lib.ListN.{length, set, take, drop, length-set, length-take, length-drop}
 use lib.Seq.{sets, length-sets}
 use borrow.Author.Tests.{lt-ltb, le-ltb}
 use Rattle.lists.specs.inside.Writes.{Wrote}
-use Rattle.lists.proofs.Writes.{write-then, wrote-same, write-part, copy-wrote}
+use Rattle.lists.proofs.Writes.{write-then, wrote-same, write-part}
 use Rattle.fields.specs.Fields.{twoBytes, fourBytes, headSize}
+use Rattle.refusals.specs.declared.Reply.{Reply}
+use Rattle.refusals.specs.inside.Verdicts.{countIn}
+use Rattle.refusals.specs.Placing.{Placed}
+use Rattle.records.specs.Exchange.{smallerRecord}
+use Rattle.records.specs.inside.Exchanging.{smallerIn}
+use Rattle.records.proofs.SmallerRecords.{smaller-long, smaller-wrote}
 use Rattle.registers.specs.Format.{entryTag, entryBase, entryField}
 use Rattle.updates.specs.declared.Account.{Account}
 use Rattle.updates.specs.declared.Entered.the-variants as Answers
@@ -31,39 +37,45 @@ wrote-length {a} {s} {t} {i} {r} w = ap length (w .holds) ∙ length-sets s i a
 wrote-end : {a s t : List ℕ} {i r : ℕ} (j : ℕ) → r ≡ j → Wrote a s i t r → Wrote a s i t j
 wrote-end j e w = record { ends = sym e ∙ w .ends; holds = w .holds }
 
--- The parts of an entry, one behind another: tag, length, number and holder, then the record in the part behind them.
-pub entry-put : (k h : ℕ) (bytes s v y : List ℕ) {t u : List ℕ} {a b c n : ℕ} → Fitting bytes s
+-- The parts of an entry, one behind another: tag, length, number and holder, then the smaller of the record and its
+-- exchange in the part behind them.
+pub entry-put : (k h : ℕ) (bytes s v y : List ℕ) {t u : List ℕ} {a b c : ℕ} (q : Reply) → Fitting bytes s
     → Wrote (twoBytes (entryBase + length bytes)) (set s 0 entryTag) 1 t a → Wrote (fourBytes k) t a u b
-    → Wrote (twoBytes h) u b v c → n ≡ length bytes
-    → y ≡ take (length bytes) bytes ++ drop (length bytes) (take (length v - 9) (drop 9 v))
-    → Wrote (entryField k h bytes) s 0 (take 9 v ++ (y ++ drop (length v - 9) (drop 9 v))) (9 + n)
-entry-put k h bytes s v y {t} {u} {a} {b} {c} {n} fit one two three e copied =
+    → Wrote (twoBytes h) u b v c
+    → Placed (smallerIn bytes (take (length v - 9) (drop 9 v))) (take (length v - 9) (drop 9 v)) y q
+    → Wrote (entryField k h (smallerRecord bytes)) s 0 (take 9 v ++ (y ++ drop (length v - 9) (drop 9 v)))
+    (9 + length bytes)
+entry-put k h bytes s v y {t} {u} {a} {b} {c} q fit one two three placed =
     let long : length v ≡ length s =
     wrote-length three ∙ wrote-length two ∙ wrote-length one ∙ length-set s 0 entryTag in
     let room : 9 + length bytes ≤ length v = omega (arith, fit .room) in
-    let part : length (take (length v - 9) (drop 9 v)) ≡ length v - 9 =
-    simp (length-take, length-drop) (omega arith) in
-    let size : entryBase + length bytes ≡ length (fourBytes k ++ (twoBytes h ++ bytes)) = omega arith in
+    let part : List ℕ = take (length v - 9) (drop 9 v) in
+    let part-long : length part ≡ length v - 9 = simp (length-take, length-drop) (omega arith) in
+    let stored : List ℕ = smallerRecord bytes in
+    let stored-long : length stored ≡ length bytes = smaller-long bytes (fit .framed) in
+    let size : entryBase + length bytes ≡ length (fourBytes k ++ (twoBytes h ++ stored)) = omega arith in
     let nine : c ≡ 9 = omega (arith, one .ends, two .ends, three .ends) in
+    let put = smaller-wrote bytes part q placed (fit .framed) (omega arith) in
+    let count : countIn q ≡ length bytes = omega (arith, put .ends) in
     write-then
     {a = entryTag ∷ []}
     (record { ends = refl; holds = refl })
     (write-then (wrote-same (ap twoBytes size) one)
     (write-then two
     (write-then (wrote-end 9 nine three)
-    (write-part 9 bytes v y n (omega arith) (copy-wrote bytes _ y n e (omega arith) copied)))))
+    (write-part 9 stored v y (length bytes) (omega arith) (wrote-end (length bytes) count put)))))
 
 -- All that a new entry writes.
-pub new-put : {p : Place} {bytes s t x y : List ℕ} {a n : ℕ} {r : Account} → RoomFor p bytes s
+pub new-put : {p : Place} {bytes stored s t x y : List ℕ} {a n : ℕ} {r : Account} → RoomFor p bytes s
     → Wrote (fourBytes (p .number)) s headSize t a
-    → Wrote (entryField (p .number) (p .account .holder) bytes) (take (length t - p .end) (drop (p .end) t)) 0 y n
+    → Wrote (entryField (p .number) (p .account .holder) stored) (take (length t - p .end) (drop (p .end) t)) 0 y n
     → x ≡ endMarked (p .end + n) (take (p .end) t ++ (y ++ drop (length t - p .end) (drop (p .end) t)))
-    → r ≡ raised (p .account) 1 → PutNew p bytes s x (Answers.New (p .number) r)
-new-put {p} {bytes} {s} {t} {x} {y} {a} {n} {r} room one two marked e =
+    → r ≡ raised (p .account) 1 → PutNew p stored s x (Answers.New (p .number) r)
+new-put {p} {bytes} {stored} {s} {t} {x} {y} {a} {n} {r} room one two marked e =
     let inside : p .end ≤ length t = omega (arith, room .room, wrote-length one) in
     let whole = write-part (p .end) _ t y n inside two in
-    let end : p .end + n ≡ p .end + entryLength (length bytes) = omega (arith, two .ends) in
-    let entry = entryField (p .number) (p .account .holder) bytes in
+    let end : p .end + n ≡ p .end + entryLength (length stored) = omega (arith, two .ends) in
+    let entry = entryField (p .number) (p .account .holder) stored in
     record {
       register =
           marked

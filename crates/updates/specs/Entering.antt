@@ -1,5 +1,5 @@
--- Entering a word (02, [3]): a new entry, or the entry that already holds the element, or a refusal. A word's own
--- refusals come first, then 12, the already-filed reply, 13, 14.
+-- Entering a word (02, [3] and [7]): a new entry, or the entry that already holds the element or its inverse, or a
+-- refusal. A word's own refusals come first, then 12, the already-filed reply, 13, 14.
 --     Reply              new or present, with the entry's number        enteredIn       what a filing comes to
 --     storedForm w       the form under which a word's element is kept  registerAfter   the buffer at exit
 --     EnteredWord        the contract of `enter_word` on every input
@@ -17,6 +17,7 @@ use Rattle.group.specs.Products.{formOf}
 use Rattle.refusals.specs.Outcomes.{Outcome, accepted, refused, after, then, valued, refusal}
 use Rattle.refusals.specs.Memory.{Memory}
 use Rattle.fields.specs.Fields.{Bytes}
+use Rattle.records.specs.Exchange.{smallerForm}
 use Rattle.words.specs.Recording.{judgedWith, Left}
 use Rattle.words.specs.Recording.{beside}
 use Rattle.registers.specs.Format.{Register, registerBytes, numberMost, liveMost, stored}
@@ -26,9 +27,10 @@ use Rattle.updates.specs.declared.Entered.{Entered}
 use Rattle.updates.specs.declared.Entered.the-variants.{New, Present, Refused}
 use Rattle.updates.specs.Accounts.{accountIn}
 
--- The form under which the element of a word is kept. Request [7] changes this line.
+-- The form under which the element of a word is kept: of its form and the form with the sides exchanged, which is that
+-- of its inverse, the one with the smaller record.
 abbrev pub storedForm : Word → Form
-storedForm w = formOf w
+storedForm w = smallerForm (formOf w)
 
 -- What a filing that is not refused answers: the number of a new entry, or of the one that holds the element.
 pub data Reply : Type 0 where

@@ -1,5 +1,5 @@
--- Runs of filings from a fresh register, and the plain list (02, [3]): each filing is handed the register's bytes as
--- the call before left them.
+-- Runs of filings from a fresh register, and the plain list (02, [3] and [7]): each filing is handed the register's
+-- bytes as the call before left them.
 --     SameElement u v   the words are filed as one          Plain    the plain list: what was given, what is kept
 --     Run cs s t        the calls of a run, from s to t      Listing  the same filings on the plain list
 --     HistoryOf cs t    a run answers as the plain list, and the accounts sum to the new entries
@@ -7,11 +7,12 @@
 use mathlib.Core.Path.{_≡_}
 use mathlib.Core.Bool.{true}
 use mathlib.Core.List.{List, [], _∷_, _++_}
+use mathlib.Core.Logic.{_⊎_}
 use Prim.Native.Nat.{ℕ, suc, _+_, _≤_}
 use lib.ListN.{length}
 use Rattle.lists.specs.Entries.{At, total}
 use Rattle.lists.specs.Tables.{values}
-use Rattle.group.specs.Letters.{Word}
+use Rattle.group.specs.Letters.{Word, inverse}
 use Rattle.group.specs.Bytes.{bytesOf}
 use Rattle.group.specs.Chains.{Joined}
 use Rattle.refusals.specs.Outcomes.{Outcome, accepted, refused}
@@ -23,9 +24,9 @@ use Rattle.registers.specs.WellFormed.{WellFormed}
 use Rattle.updates.specs.declared.Entered.{Entered}
 use Rattle.updates.specs.Entering.{Reply, newEntry, present, Answer, enteredOf, EnteredWord}
 
--- Two words are filed as one element. Request [7] changes this line.
+-- Two words are filed as one: "a chain joins one word to the other, or to the other's inverse".
 abbrev pub SameElement : Word → Word → Type 0
-SameElement u v = Joined u v
+SameElement u v = Joined u v ⊎ Joined u (inverse v)
 
 -- A call of `enter_word`: the word's bytes, what is lent with it at entry and at exit, the holder, and the answer.
 pub record Entering : Type 0 where

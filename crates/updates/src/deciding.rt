@@ -1,5 +1,6 @@
 // What a filing comes to, found before anything that was lent is written.
 ghost use mathlib.Core.Path.{_≡_};
+ghost use lib.ListN.{length};
 ghost use Rattle.refusals.specs.Memory.{memory};
 ghost use Rattle.updates.specs.inside.Steps.{settled, Judged, DecidedWith, Decided};
 use crate::Account;
@@ -80,7 +81,8 @@ fn judge(record: &[u8], holder: u16, register: &[u8]) -> Decision
     settle(search, account, o.last, o.end, record.len(), register.len())
 }
 
-// The same of a word, whose record is written into the tables and the buffer lent.
+// The same of a word, whose record is written into the tables and the buffer lent, and the one that a register stores,
+// the smaller of it and its exchange, into a second.
 fn judge_word(
     word: &[u8],
     holder: u16,
@@ -88,13 +90,16 @@ fn judge_word(
     b: &mut [u16],
     a: &mut [u16],
     own: &mut [u8],
+    stored: &mut [u8],
 ) -> Decision
     ensures { λ r. ⌜ DecidedWith (now (word .entry)) (memory (now (b .entry)) (now (a .entry)) (now (own .entry)))
-        holder (now (register .entry)) r ⌝ }
+        (length (now (stored .entry))) holder (now (register .entry)) r ⌝ }
 {
     let reply = words::word_to_record(word, b, a, own);
     let n = refusals::count_of(reply);
-    judge(&own[..n], holder, register)
+    let smaller = records::put_smaller(&own[..n], stored);
+    let m = refusals::count_of(smaller);
+    judge(&stored[..m], holder, register)
 }
 
 // What a filing of an accepted word comes to.
@@ -104,5 +109,14 @@ pub fn decide(word: &[u8], holder: u16, register: &[u8]) -> Decision
     let mut b = [0u16; LIMIT + 1];
     let mut a = [0u16; LIMIT + 1];
     let mut own = [0u8; BASE_SIZE + 4 * LIMIT];
-    judge_word(word, holder, register, &mut b, &mut a, &mut own)
+    let mut stored = [0u8; BASE_SIZE + 4 * LIMIT];
+    judge_word(
+        word,
+        holder,
+        register,
+        &mut b,
+        &mut a,
+        &mut own,
+        &mut stored,
+    )
 }

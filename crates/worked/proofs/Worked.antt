@@ -27,6 +27,7 @@ use Rattle.refusals.specs.Placing.{fitting}
 use Rattle.refusals.proofs.Placing.{fit-long}
 use Rattle.records.specs.Format.{encode}
 use Rattle.records.specs.Reading.{reducedForm, decode}
+use Rattle.records.specs.Exchange.{bytesBelow}
 use Rattle.clause.specs.Clause.{findBreak}
 use Rattle.records.specs.Faults.{formRead}
 use Rattle.records.proofs.ReadBack.{form-encode}
@@ -37,6 +38,7 @@ use Rattle.lengths.specs.Weights.{formLength}
 use Rattle.spelling.specs.Spelling.{spelling}
 use Rattle.spelling.specs.Contracts.{wordIn}
 use Rattle.words.specs.Recording.{encodeWord}
+use Rattle.comparisons.specs.Comparing.{same, inverse, different}
 use Rattle.tokens.specs.Texts.{textOf}
 use Rattle.notation.specs.Contracts.{formText}
 use Rattle.numerals.specs.Decimals.{ascii, decimalWithin}
@@ -47,8 +49,8 @@ use Rattle.registers.proofs.ReadBack.{register-front}
 use Rattle.updates.specs.Entering.{newEntry, present, storedForm, Found, answered, registerAfter}
 use Rattle.updates.proofs.StoredForms.{stored-read}
 use Rattle.worked.specs.Worked.{unreduced, unreducedRecord, deadEnd, deadEndRecord, Measures, IsSpelled}
-use Rattle.worked.specs.Worked.{IsPhrased, IsEntered, fresh26, fresh33, filedA, filedBAbab}
-use Rattle.worked.specs.Worked.{Worked, WorkedForms, WorkedRegisters}
+use Rattle.worked.specs.Worked.{IsPhrased, IsEntered, fresh26, fresh30, fresh33, filedA, filedaB, filedBAbab}
+use Rattle.worked.specs.Worked.{HasVerdict, Worked, WorkedForms, WorkedRegisters, WorkedVerdicts}
 
 -- The clause is broken at index 0.
 applies-0 : Applies 0 unreduced
@@ -193,16 +195,24 @@ worked-forms = record {
   dead-end-plus-labels = refl;
 }
 
--- Filings: the first two by computation.
+-- Filings: into fresh registers by computation.
 entered-a : IsEntered "a" 0 fresh26 (newEntry 1) filedA
-unfolding readEntries
+unfolding readEntries bytesBelow
 entered-a = record { word = word "a"; text = refl; answer = refl; left = refl }
 
 entered-BAbab : IsEntered "BAbab" 0 fresh33 (newEntry 1) filedBAbab
-unfolding readEntries
+unfolding readEntries bytesBelow
 entered-BAbab = record { word = word "BAbab"; text = refl; answer = refl; left = refl }
 
--- What the second left is read as one entry.
+entered-aB : IsEntered "aB" 0 fresh30 (newEntry 1) filedaB
+unfolding readEntries bytesBelow
+entered-aB = record { word = word "aB"; text = refl; answer = refl; left = refl }
+
+entered-bA : IsEntered "bA" 0 fresh30 (newEntry 1) filedaB
+unfolding readEntries bytesBelow
+entered-bA = record { word = word "bA"; text = refl; answer = refl; left = refl }
+
+-- What `BAbab` left is read as one entry.
 abbrev oneEntry : Register
 oneEntry = record {
   last = 1;
@@ -210,12 +220,13 @@ oneEntry = record {
 }
 
 read-BAbab : readRegister filedBAbab ≡ accepted oneEntry
+unfolding bytesBelow
 read-BAbab =
     register-front oneEntry (0 ∷ replicate 6 255) (stored-read (word "BAbab") (omega arith), tt) refl refl
     (omega arith)
 
 entered-AAbaa : IsEntered "AAbaa" 7 filedBAbab (present 1) filedBAbab
-unfolding sameBytes
+unfolding sameBytes bytesBelow
 entered-AAbaa =
     let f : Form = storedForm (word "AAbaa") in
     let then-filed : Outcome Register → Outcome Found =
@@ -232,4 +243,31 @@ worked-registers = record {
   entered-a = entered-a;
   entered-BAbab = entered-BAbab;
   entered-AAbaa = entered-AAbaa;
+  entered-aB = entered-aB;
+  entered-bA = entered-bA;
+}
+
+-- Verdicts, by computation.
+verdict-a-A : HasVerdict "a" "A" inverse
+unfolding sameBytes
+verdict-a-A = record { first = word "a"; second = word "A"; texts = (refl, refl); verdict = refl }
+
+verdict-ab-BA : HasVerdict "ab" "BA" inverse
+unfolding sameBytes
+verdict-ab-BA = record { first = word "ab"; second = word "BA"; texts = (refl, refl); verdict = refl }
+
+verdict-empty-aA : HasVerdict "" "aA" same
+unfolding sameBytes
+verdict-empty-aA = record { first = []; second = word "aA"; texts = (refl, refl); verdict = refl }
+
+verdict-ab-ba : HasVerdict "ab" "ba" different
+unfolding sameBytes
+verdict-ab-ba = record { first = word "ab"; second = word "ba"; texts = (refl, refl); verdict = refl }
+
+pub worked-verdicts : WorkedVerdicts
+worked-verdicts = record {
+  verdict-a-A = verdict-a-A;
+  verdict-ab-BA = verdict-ab-BA;
+  verdict-empty-aA = verdict-empty-aA;
+  verdict-ab-ba = verdict-ab-ba;
 }

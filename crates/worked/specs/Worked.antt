@@ -4,12 +4,14 @@
 -- by its levels, `level b_0 a_0 (level b_1 a_1 …)`. N and the length of a word are those of its record.
 --     Worked        01's lines marked P, the limit, the printed table of weights, the relators, and a whole receipt
 --     WorkedForms   the same lines of forms, 000's Table 4, and the labels of 02, [5], for its carets
---     WorkedRegisters   filings of 02, [3], with every byte of the register
+--     WorkedRegisters   filings of 02, [3] and [7], with every byte of the register
+--     WorkedVerdicts    verdicts on two words, of 02, [7]
 --     HasForm t f, HasRecord t s   the text t is a word, with the form f, with the record s
 --     Measures s n l               the record s is read, N is n and the length is l
 --     IsSpelled s t                the record s is read, and spelled as the text t
 --     IsPhrased s t                the record s is that of the text t in subscript notation, and is written as t
 --     IsEntered t h s y s′         the text t, filed under holder h into the register s, is answered y and leaves s′
+--     HasVerdict t u d             the texts t and u are words, and d is the verdict on their records
 -- Assumes nothing.
 use mathlib.Core.Path.{_≡_}
 use mathlib.Core.List.{List, [], _∷_, _++_}
@@ -41,6 +43,7 @@ use Rattle.tokens.specs.Texts.{textOf}
 use Rattle.forest.specs.Filling.{productForm}
 use Rattle.notation.specs.Contracts.{textIn}
 use Rattle.words.specs.Recording.{encodeWord}
+use Rattle.comparisons.specs.Comparing.{Decision, same, inverse, different, verdictOn}
 use Rattle.numerals.specs.Decimals.{ascii}
 use Rattle.rows.specs.Receipts.{outputOf}
 use Rattle.updates.specs.Entering.{Reply, newEntry, present, enteredWord, registerAfter}
@@ -82,6 +85,13 @@ pub record IsEntered (t : String) (h : ℕ) (s : List ℕ) (y : Reply) (s′ : L
   pub answer : then (enteredWord s h word) (λ x. accepted (x .answer)) ≡ accepted y
   pub left : registerAfter (enteredWord s h word) s ≡ s′
 
+-- The verdict on two words, by their records.
+pub record HasVerdict (t u : String) (d : Decision) : Type 0 where
+  pub first : Word
+  pub second : Word
+  pub texts : (wordOf t ≡ some first) × (wordOf u ≡ some second)
+  pub verdict : verdictOn (encodeWord first) (encodeWord second) ≡ d
+
 -- 010000020000 and 01000400010001020000, byte by byte.
 abbrev pub emptyRecord : List ℕ
 emptyRecord = 1 ∷ 0 ∷ 0 ∷ 2 ∷ 0 ∷ 0 ∷ []
@@ -113,26 +123,39 @@ x2 = level 0 0 x1
 abbrev pub x3 : Form
 x3 = level 0 0 x2
 
--- Fresh registers: 10000400000000, then bytes 00, 26 bytes in all; the same, one byte 00 and 25 bytes FF.
+-- Fresh registers: 10000400000000, then bytes 00, 26 and 30 bytes in all; the same, one byte 00 and 25 bytes FF.
 abbrev pub fresh26 : List ℕ
 fresh26 = 16 ∷ 0 ∷ 4 ∷ 0 ∷ 0 ∷ 0 ∷ 0 ∷ replicate 19 0
+
+abbrev pub fresh30 : List ℕ
+fresh30 = 16 ∷ 0 ∷ 4 ∷ 0 ∷ 0 ∷ 0 ∷ 0 ∷ replicate 23 0
 
 abbrev pub fresh33 : List ℕ
 fresh33 = 16 ∷ 0 ∷ 4 ∷ 0 ∷ 0 ∷ 0 ∷ 0 ∷ 0 ∷ replicate 25 255
 
--- 10000400000001 and the entry 110010 00000001 0000 01000400000001020000: number 1, holder 0, the record of `a`.
+-- 10000400000001 and the entry 110010 00000001 0000 01000002000400000001: number 1, holder 0, the record of `A`, which
+-- is the smaller of that of `a` and its exchange.
 abbrev pub filedA : List ℕ
 filedA =
     16 ∷ 0 ∷ 4 ∷ 0 ∷ 0 ∷ 0 ∷ 1
     ∷ 17 ∷ 0 ∷ 16 ∷ 0 ∷ 0 ∷ 0 ∷ 1 ∷ 0 ∷ 0
-    ∷ 1 ∷ 0 ∷ 4 ∷ 0 ∷ 0 ∷ 0 ∷ 1 ∷ 2 ∷ 0 ∷ 0 ∷ []
+    ∷ 1 ∷ 0 ∷ 0 ∷ 2 ∷ 0 ∷ 4 ∷ 0 ∷ 0 ∷ 0 ∷ 1 ∷ []
 
--- The same with the record 01000400030001020000 of `BAbab`, then one byte 00, and the last 6 bytes as they were.
+-- The same with the record 0100040000000102000400010001 of `aB`, which `bA` has for its exchange: both have as many
+-- bytes on either side, and the index decides.
+abbrev pub filedaB : List ℕ
+filedaB =
+    16 ∷ 0 ∷ 4 ∷ 0 ∷ 0 ∷ 0 ∷ 1
+    ∷ 17 ∷ 0 ∷ 20 ∷ 0 ∷ 0 ∷ 0 ∷ 1 ∷ 0 ∷ 0
+    ∷ 1 ∷ 0 ∷ 4 ∷ 0 ∷ 0 ∷ 0 ∷ 1 ∷ 2 ∷ 0 ∷ 4 ∷ 0 ∷ 1 ∷ 0 ∷ 1 ∷ []
+
+-- The same with the record 01000002000400030001, whose exchange `BAbab` has, then one byte 00, and the last 6 bytes as
+-- they were.
 abbrev pub filedBAbab : List ℕ
 filedBAbab =
     16 ∷ 0 ∷ 4 ∷ 0 ∷ 0 ∷ 0 ∷ 1
     ∷ 17 ∷ 0 ∷ 16 ∷ 0 ∷ 0 ∷ 0 ∷ 1 ∷ 0 ∷ 0
-    ∷ 1 ∷ 0 ∷ 4 ∷ 0 ∷ 3 ∷ 0 ∷ 1 ∷ 2 ∷ 0 ∷ 0
+    ∷ 1 ∷ 0 ∷ 0 ∷ 2 ∷ 0 ∷ 4 ∷ 0 ∷ 3 ∷ 0 ∷ 1
     ∷ 0 ∷ replicate 6 255
 
 -- The row of a kind in the table of weights, in 01's order.
@@ -210,7 +233,7 @@ pub record WorkedForms : Type 0 where
   pub dead-end-minus-labels : labels (minusTree deadEnd) ≡ 'L ∷ 'L ∷ 'I ∷ 'R ∷ 'R ∷ 'R ∷ 'R ∷ []
   pub dead-end-plus-labels : labels (plusTree deadEnd) ≡ 'I ∷ 'L ∷ 'L ∷ 'R ∷ 'X ∷ 'I ∷ 'R ∷ []
 
--- Filings of 02, [3].
+-- Filings of 02, [3] and [7].
 pub record WorkedRegisters : Type 0 where
   -- `a`, holder 0, into a fresh register that it fills: a new entry with number 1.
   pub entered-a : IsEntered "a" 0 fresh26 (newEntry 1) filedA
@@ -218,3 +241,13 @@ pub record WorkedRegisters : Type 0 where
   pub entered-BAbab : IsEntered "BAbab" 0 fresh33 (newEntry 1) filedBAbab
   -- `AAbaa`, the same element, holder 7, into what that left: entry 1 is there already, and nothing is changed.
   pub entered-AAbaa : IsEntered "AAbaa" 7 filedBAbab (present 1) filedBAbab
+  -- `aB`, and its inverse `bA`, holder 0, each into a fresh register that it fills: the same record is stored.
+  pub entered-aB : IsEntered "aB" 0 fresh30 (newEntry 1) filedaB
+  pub entered-bA : IsEntered "bA" 0 fresh30 (newEntry 1) filedaB
+
+-- Verdicts of 02, [7].
+pub record WorkedVerdicts : Type 0 where
+  pub verdict-a-A : HasVerdict "a" "A" inverse
+  pub verdict-ab-BA : HasVerdict "ab" "BA" inverse
+  pub verdict-empty-aA : HasVerdict "" "aA" same
+  pub verdict-ab-ba : HasVerdict "ab" "ba" different

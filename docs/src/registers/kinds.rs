@@ -1,5 +1,6 @@
 // The registers and words on which the library and the plain program are compared.
 
+use crate::exchange::{exchanged, smaller};
 use crate::plain::{put_entry, MOST_BYTES};
 use crate::records::{word_to_record, LIMIT};
 use crate::words::{over, Random};
@@ -25,6 +26,8 @@ pub const KINDS: &[Kind] = &[
     Kind { name: "a thousand entries", registers: 60, make: |r| bytes(&made(1000, r)) },
     Kind { name: "the highest numbers", registers: 1000, make: |r| bytes(&high(few(r))) },
     Kind { name: "a record twice", registers: 1000, make: twice },
+    Kind { name: "the sides of a record exchanged", registers: 1000, make: greater },
+    Kind { name: "an element and its inverse", registers: 1000, make: both_ways },
     Kind { name: "more than four of a holder", registers: 1000, make: crowded },
     Kind { name: "numbers out of order", registers: 1000, make: disordered },
     Kind { name: "one to three bytes changed", registers: 6000, make: |r| changed(bytes(&few(r)), r) },
@@ -53,6 +56,11 @@ pub fn word(random: &mut Random) -> Vec<u8> {
     over(b"aAbB", n, random)
 }
 
+// The inverse of a word.
+fn inverse(word: &[u8]) -> Vec<u8> {
+    word.iter().rev().map(|x| x ^ 32).collect()
+}
+
 // Another spelling of the same element: pairs that cancel, and relators.
 pub fn respelled(word: &[u8], random: &mut Random) -> Vec<u8> {
     let mut word = word.to_vec();
@@ -71,7 +79,7 @@ fn made(most: usize, random: &mut Random) -> Made {
     let mut records = std::collections::HashSet::new();
     for e in 0..most {
         number += 1 + [0, 0, 0, random.below(5)][random.below(4)] as u32;
-        let record = record(&if most > 50 { over(b"aAbB", 14, random) } else { word(random) });
+        let record = smaller(&record(&if most > 50 { over(b"aAbB", 14, random) } else { word(random) }));
         if records.insert(record.clone()) {
             entries.push((number, (e / 4) as u16 * 7, record));
         }
@@ -119,6 +127,26 @@ fn twice(random: &mut Random) -> Vec<u8> {
     let mut made = few(random);
     if let [first, .., last] = &mut made.entries[..] {
         last.2 = first.2.clone();
+    }
+    bytes(&made)
+}
+
+// One record, of the registers that have any, is the greater of the two, unless it is that of the identity.
+fn greater(random: &mut Random) -> Vec<u8> {
+    let mut made = few(random);
+    let n = made.entries.len();
+    if n > 0 {
+        let entry = &mut made.entries[random.below(n)];
+        entry.2 = exchanged(&entry.2);
+    }
+    bytes(&made)
+}
+
+// The last record is the first one exchanged.
+fn both_ways(random: &mut Random) -> Vec<u8> {
+    let mut made = few(random);
+    if let [first, .., last] = &mut made.entries[..] {
+        last.2 = exchanged(&first.2);
     }
     bytes(&made)
 }
@@ -185,6 +213,7 @@ pub fn filed(random: &mut Random) -> Vec<u8> {
         0 => word.push(b'c'),
         1 => word = vec![b'a'; LIMIT + random.below(2)],
         2 => word.insert(0, 0),
+        3..=9 => word = respelled(&inverse(&word), random),
         _ => word = respelled(&word, random),
     }
     word

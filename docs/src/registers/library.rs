@@ -1,10 +1,39 @@
-// The calls of the proved library on slices.
+// The calls of the proved library on slices, and the filings of one from before an element and its inverse shared an
+// entry.
 
 use crate::plain::Filing;
 use crate::records::Answer;
 
+type Export = unsafe extern "C" fn(
+    *const u8,
+    usize,
+    *mut u16,
+    usize,
+    *mut u16,
+    usize,
+    *mut u8,
+    usize,
+    u16,
+    *mut u8,
+    usize,
+) -> Filing;
+
 extern "C" {
     fn thompson_enter_word(
+        word: *const u8,
+        word_len: usize,
+        b: *mut u16,
+        b_len: usize,
+        a: *mut u16,
+        a_len: usize,
+        record: *mut u8,
+        record_len: usize,
+        holder: u16,
+        register: *mut u8,
+        register_len: usize,
+    ) -> Filing;
+    #[cfg(older)]
+    fn older_enter_word(
         word: *const u8,
         word_len: usize,
         b: *mut u16,
@@ -21,7 +50,9 @@ extern "C" {
     fn thompson_live_entries(register: *const u8, register_len: usize, holder: u16) -> Answer;
 }
 
-pub fn enter_word(
+#[inline(always)]
+fn on_slices(
+    f: Export,
     word: &[u8],
     b: &mut [u16],
     a: &mut [u16],
@@ -30,7 +61,7 @@ pub fn enter_word(
     register: &mut [u8],
 ) -> Filing {
     unsafe {
-        thompson_enter_word(
+        f(
             word.as_ptr(),
             word.len(),
             b.as_mut_ptr(),
@@ -44,6 +75,29 @@ pub fn enter_word(
             register.len(),
         )
     }
+}
+
+pub fn enter_word(
+    word: &[u8],
+    b: &mut [u16],
+    a: &mut [u16],
+    record: &mut [u8],
+    holder: u16,
+    register: &mut [u8],
+) -> Filing {
+    on_slices(thompson_enter_word, word, b, a, record, holder, register)
+}
+
+#[cfg(older)]
+pub fn enter_word_before(
+    word: &[u8],
+    b: &mut [u16],
+    a: &mut [u16],
+    record: &mut [u8],
+    holder: u16,
+    register: &mut [u8],
+) -> Filing {
+    on_slices(older_enter_word, word, b, a, record, holder, register)
 }
 
 pub fn check_register(register: &[u8]) -> Answer {

@@ -1,6 +1,7 @@
 // The register as a plain program: the entries are read into a hash map by their records, and the holders' counts into
 // another. All is worked out first, and what was lent is written last.
 
+use crate::exchange::{exchanged, smaller};
 use crate::records::{self, Answer, LIMIT};
 use std::collections::HashMap;
 
@@ -53,7 +54,7 @@ fn read(bytes: &[u8]) -> Option<Register<'_>> {
         let (number, holder, record) = entry_at(&bytes[register.end..])?;
         let live = register.live.entry(holder).or_default();
         *live += 1;
-        if number <= low || number > register.last || *live > LIVE_MOST || !is_record(record) {
+        if number <= low || number > register.last || *live > LIVE_MOST || !is_stored(record) {
             return None;
         }
         if register.numbers.insert(record, number).is_some() {
@@ -72,6 +73,11 @@ fn entry_at(bytes: &[u8]) -> Option<(u32, u16, &[u8])> {
     }
     let body = bytes[3..].get(..two(&bytes[1..]) as usize)?;
     (body.len() >= 6).then(|| (four(body), two(&body[4..]), &body[6..]))
+}
+
+// Whether these are the bytes of a record that is not above the record with its sides exchanged.
+fn is_stored(bytes: &[u8]) -> bool {
+    is_record(bytes) && *bytes <= exchanged(bytes)[..]
 }
 
 // Whether these are the bytes of a record, and all of them.
@@ -136,7 +142,7 @@ pub fn enter_word(
         return refused(answer.refusal, answer.value);
     }
     let own = &own[..answer.value as usize];
-    let filing = decide(own, holder, register);
+    let filing = decide(&smaller(own), holder, register);
     if filing.refusal == 0 {
         b[..=word.len()].copy_from_slice(&own_b[..=word.len()]);
         a[..=word.len()].copy_from_slice(&own_a[..=word.len()]);
@@ -145,7 +151,7 @@ pub fn enter_word(
     filing
 }
 
-// The entry of a record, or why there is none; a new one is written.
+// The entry of a record that may be stored, or why there is none; a new one is written.
 fn decide(record: &[u8], holder: u16, register: &mut [u8]) -> Filing {
     let Some(r) = read(register) else { return refused(12, 0) };
     if let Some(&number) = r.numbers.get(record) {

@@ -3,6 +3,7 @@
 // and too small: the answers, and every entry and byte that was lent.
 
 mod collide;
+mod exchange;
 mod kinds;
 mod library;
 mod plain;

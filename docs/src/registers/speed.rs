@@ -1,6 +1,8 @@
 // The time of the library and of the plain program: filings into a full register and into one of half its bytes, a run
 // that fills a register, and registers whose fingerprints all collide.
 
+#[cfg(older)]
+use crate::exchange::exchanged;
 use crate::kinds::{bytes, Made};
 use crate::plain::{self, Filing, MOST_BYTES};
 use crate::{collide, library, sizes, Call, Compared, Lent};
@@ -48,9 +50,9 @@ fn holding(size: usize, records: &[Vec<u8>]) -> Vec<u8> {
     register
 }
 
-// The records of x1, x2, .. with that of x0 as the last of n.
+// The records of the inverses of x1, x2, .. with that of x0 as the last of n.
 fn one_power_each(n: usize) -> Vec<Vec<u8>> {
-    let record = |i: usize| [&[1, 0, 4][..], &((i as u32) << 16 | 1).to_be_bytes(), &[2, 0, 0]].concat();
+    let record = |i: usize| [&[1, 0, 0, 2, 0, 4][..], &((i as u32) << 16 | 1).to_be_bytes()].concat();
     (1..n).chain([0]).map(record).collect()
 }
 
@@ -59,7 +61,7 @@ fn many_powers(n: usize) -> Vec<Vec<u8>> {
     let record = |left_out: usize| {
         let indices = (1..n + 2).filter(|&i| i != left_out);
         let body: Vec<u8> = indices.flat_map(|i| ((i as u32) << 16 | 1).to_be_bytes()).collect();
-        [&[1][..], &(body.len() as u16).to_be_bytes(), &body, &[2, 0, 0]].concat()
+        [&[1, 0, 0, 2][..], &(body.len() as u16).to_be_bytes(), &body].concat()
     };
     (1..5).map(record).collect()
 }
@@ -99,11 +101,34 @@ fn measure_filings(c: &mut Compared) {
     }
 }
 
-// The words of a run that fills a register: x1, its inverse, x2, its inverse, ..
+// The same filings by the library and by the older one, each into the register that its own rule fills: the older one
+// stores the words' own records, here the greater ones.
+#[cfg(older)]
+fn measure_older() {
+    println!("{:<44}{:>14} |{:>11}{:>11}{:>8}", "enter_word", "answer", "library ms", "older ms", "ratio");
+    for size in [MOST_BYTES, MOST_BYTES / 2] {
+        let records = one_power_each((size - 7) / 19);
+        let own: Vec<_> = records.iter().map(|r| exchanged(r)).collect();
+        let registers = [holding(size, &records), holding(size, &own)];
+        for (name, word) in [("a, present", &b"a"[..]), ("ab, not present", b"ab")] {
+            let [mut l, mut o] = registers.each_ref().map(|register| Lent::new(sizes(word), register));
+            let answer = l.call(library::enter_word, word, 60000);
+            assert!(answer == o.call(library::enter_word_before, word, 60000));
+            let mut of_library = || _ = black_box(l.call(library::enter_word, black_box(word), 60000));
+            let mut of_older = || _ = black_box(o.call(library::enter_word_before, black_box(word), 60000));
+            let [x, y] = medians(21, [&mut of_library, &mut of_older]);
+            let (name, told) = (format!("{name}: {size} bytes"), told(answer));
+            println!("{name:<44}{told:>14} |{:>11.3}{:>11.3}{:>8.2}", x / 1000.0, y / 1000.0, x / y);
+        }
+    }
+    println!();
+}
+
+// The words of a run that fills a register: x1, its square, x2, its square, ..
 fn filling() -> Vec<Vec<u8>> {
     let word = |e: usize| {
         let k = e / 2;
-        [vec![b'A'; k], vec![[b'b', b'B'][e % 2]], vec![b'a'; k]].concat()
+        [vec![b'A'; k], vec![b'b'; 1 + e % 2], vec![b'a'; k]].concat()
     };
     (0..).map(word).take((MOST_BYTES - 7) / 19).collect()
 }
@@ -163,6 +188,8 @@ pub fn measure(c: &mut Compared) {
     println!("times of the thread, medians of {RUNS} runs, the two programs in turn");
     measure_filings(c);
     println!();
+    #[cfg(older)]
+    measure_older();
     measure_fill(c);
     println!();
     measure_checks(c);

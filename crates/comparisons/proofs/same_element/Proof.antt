@@ -80,9 +80,6 @@ write-two-requires c κs =
     let at-enum-told = at-enum-told2 .before .before .before in
     (accepts1 at-enum-told, accepts2 at-enum-told2)
 
-verdict-requires : tie.Need-verdict-requires
-verdict-requires c κs = search needs
-
 same-length : tie.Need-same-length
 same-length c = search needs
 
@@ -101,13 +98,7 @@ same-length-5 c = search needs
 same-length-6 : tie.Need-same-length-6
 same-length-6 c = search needs
 
--- The call that wrote both, seen from behind the verdict, and what it left of the two memories.
-abbrev call : tie.After-verdict → tie.After-write-two
-call c =
-    let at-b-table2 = c .before .before .before .before .before .before in
-    let at-b-table1 = at-b-table2 .before .before .before .before .before .before in
-    at-b-table1 .before
-
+-- What the call that wrote both left of the two memories.
 abbrev left1 : tie.After-write-two → Memory
 left1 c = memory (c .write-two .last .1 .0) (c .write-two .last .1 .1 .0) (c .write-two .last .1 .1 .1 .0)
 
@@ -118,7 +109,8 @@ left2 c =
 
 returns-3 : tie.Need-returns-3
 returns-3 c =
-    let at-write-two = call c in
+    let at-slice-known9 = c .before .before .before .before .before .before in
+    let at-write-two = at-slice-known9 .before .before .before .before .before .before in
     let at-write-two-arg = at-write-two .before .before .before .before .before .before in
     let at-enum-told2 = at-write-two-arg .before in
     let at-enum-told = at-enum-told2 .before .before .before in
@@ -126,7 +118,7 @@ returns-3 c =
     both-written (at-start .args .word1 .now) (lent1 at-start) (left1 at-write-two)
     (at-start .args .word2 .now) (lent2 at-start) (left2 at-write-two)
     (accepts1 at-enum-told) (accepts2 at-enum-told2)
-    (at-write-two .write-two .result) (at-write-two .write-two .ensures) (c .verdict .result) (c .verdict .ensures)
+    (at-write-two .write-two .result) (at-write-two .write-two .ensures)
 
 pub same-element-spec : {M : Type 1} → statement M
 same-element-spec =
@@ -141,7 +133,6 @@ same-element-spec =
     returns-2
     enum-told-2
     write-two-requires
-    verdict-requires
     same-length
     same-length-2
     same-length-3

@@ -12,7 +12,6 @@ use lib.Dec.{ltb}
 use Rattle.refusals.specs.declared.Refusal.the-variants.{BadRegister}
 use Rattle.refusals.specs.Outcomes.{Outcome, accepted, refused}
 use Rattle.clause.specs.Clause.{both}
-use Rattle.records.specs.Reading.{decode}
 use Rattle.fields.specs.Fields.{twoAt, fourAt, headSize}
 use Rattle.registers.specs.declared.EntryAt.{EntryAt}
 use Rattle.registers.specs.declared.EntryAt.the-variants as Entries
@@ -24,7 +23,7 @@ use Rattle.registers.specs.declared.Search.the-variants.{Number, Nothing
 use Rattle.registers.specs.declared.SummaryOf.{SummaryOf}
 use Rattle.registers.specs.declared.SummaryOf.the-variants as Summaries
 use Rattle.registers.specs.Format.{liveMost, entryBase}
-use Rattle.registers.specs.Reading.{firstStands, numberIn, holderIn, recordIn}
+use Rattle.registers.specs.Reading.{firstStands, numberIn, holderIn, recordIn, storedIn}
 use Rattle.registers.specs.Finding.{found}
 use Rattle.registers.specs.Answers.{headingOf}
 
@@ -59,7 +58,7 @@ highPlace x = x / tableSize
 abbrev pub countAt : List ℕ → ℕ → ℕ
 countAt table h = getD table h 0 % mark
 
--- The record check accepts.
+-- A reading accepts.
 abbrev pub accepts : {A : Type 0} → Outcome A → Bool
 accepts (accepted x) = true
 accepts (refused number place) = false
@@ -110,7 +109,7 @@ pub record EntryHead (s : List ℕ) (at : ℕ) (h : Heading) (x : ℕ) : Type 0 
 abbrev pub entryFits : (s : List ℕ) (at low : ℕ) (table : List ℕ) → Bool
 entryFits s at low table =
     both (ltb low (numberIn (drop at s)))
-    (both (accepts (decode (recordIn (drop at s))))
+    (both (accepts (storedIn (recordIn (drop at s))))
     (both (ltb (countAt table (holderIn (drop at s))) liveMost) (isNew s (recordIn (drop at s)) table low)))
 
 -- The answer where no entry stands: 12 unless the list ends there and no number is above the last given.

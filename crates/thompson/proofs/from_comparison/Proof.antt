@@ -14,6 +14,9 @@ enum-told c = search needs
 enum-told-2 : tie.Need-enum-told-2
 enum-told-2 c = search needs
 
+enum-told-3 : tie.Need-enum-told-3
+enum-told-3 c = search needs
+
 enum-known-c : tie.Need-enum-known-c
 enum-known-c c = search needs
 
@@ -33,11 +36,14 @@ returns-2 : tie.Need-returns-2
 returns-2 c = sym (ap (λ (d : Comparison). codeOfDecision (decisionOf d)) (c .enum-told2 .given .1))
 
 returns-3 : tie.Need-returns-3
-returns-3 c = c .refused .ensures ∙ first-code (c .before .before .c .given .0 .0) ∙ sym (ap (λ (d : Comparison).
-    codeOfDecision (decisionOf d)) (c .before .before .c .given .1))
+returns-3 c = sym (ap (λ (d : Comparison). codeOfDecision (decisionOf d)) (c .enum-told3 .given .1))
 
 returns-4 : tie.Need-returns-4
-returns-4 c = c .second .ensures ∙ sym (ap (λ (d : Comparison). codeOfDecision (decisionOf d)) (c .before .before .c2
+returns-4 c = c .refused .ensures ∙ first-code (c .before .before .c .given .0 .0) ∙ sym (ap (λ (d : Comparison).
+    codeOfDecision (decisionOf d)) (c .before .before .c .given .1))
+
+returns-5 : tie.Need-returns-5
+returns-5 c = c .second .ensures ∙ sym (ap (λ (d : Comparison). codeOfDecision (decisionOf d)) (c .before .before .c2
     .given .1))
 
 pub from-comparison-spec : {M : Type 1} → statement M
@@ -46,6 +52,7 @@ from-comparison-spec =
     (tie.spec
     enum-told
     enum-told-2
+    enum-told-3
     enum-known-c
     refused-requires
     enum-known-c-2
@@ -53,4 +60,5 @@ from-comparison-spec =
     returns
     returns-2
     returns-3
-    returns-4)
+    returns-4
+    returns-5)

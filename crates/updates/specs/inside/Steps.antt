@@ -3,7 +3,7 @@
 --     newStored      the register with a new entry's bytes       Committed   the register and the answer by a decision
 -- Inside: no claim reaches these definitions; a reader of the claims need not believe them. Assumes nothing.
 use mathlib.Core.Path.{_≡_}
-use mathlib.Core.Bool.{cond}
+use mathlib.Core.Bool.{true, cond}
 use mathlib.Core.List.{List, [], _∷_}
 use mathlib.Core.Option.{none, some}
 use Prim.Native.Nat.{ℕ, suc, _+_, _<_, _≤_, _^_}
@@ -18,7 +18,8 @@ use Rattle.refusals.specs.Outcomes.{Outcome, accepted, then, refusal}
 use Rattle.refusals.specs.Memory.{Memory}
 use Rattle.fields.specs.Fields.{Bytes, fourBytes, headSize}
 use Rattle.records.specs.Format.{encode, bufferSize}
-use Rattle.words.specs.Recording.{judgedRecord, judgedWith}
+use Rattle.records.specs.Reading.{frames}
+use Rattle.words.specs.Recording.{encodeWord, judgedRecord, judgedWith}
 use Rattle.registers.specs.Format.{Register, registerBytes, registerMost, numberMost, liveMost}
 use Rattle.registers.specs.Format.{entryBase, firstSize, entryField, endMark}
 use Rattle.registers.specs.Reading.{numberFor, readRegister}
@@ -82,10 +83,11 @@ pub record Judged (bytes : List ℕ) (h : ℕ) (s : List ℕ) (d : Decision) : T
   pub are-bytes : Bytes s
   pub decides : (f : Form) → bytes ≡ encode f → DecidedAs f h s d
 
--- The decision on a word with tables and a buffer for its record.
-pub record DecidedWith (word : List ℕ) (m : Memory) (h : ℕ) (s : List ℕ) (d : Decision) : Type 0 where
+-- The decision on a word with tables and a buffer for its record, and one of n bytes for the record that is stored.
+pub record DecidedWith (word : List ℕ) (m : Memory) (n : ℕ) (h : ℕ) (s : List ℕ) (d : Decision) : Type 0 where
   pub are-bytes : Bytes s
-  pub decides : (w : Word) → judgedWith word m ≡ accepted w → DecidedAs (storedForm w) h s d
+  pub decides : (w : Word) → judgedWith word m ≡ accepted w → length (encodeWord w) ≤ n
+      → DecidedAs (storedForm w) h s d
 
 -- The decision on a word, whatever is lent with it: it is judged beside tables and a buffer that are long enough.
 pub record Decided (word : List ℕ) (h : ℕ) (s : List ℕ) (d : Decision) : Type 0 where
@@ -93,13 +95,15 @@ pub record Decided (word : List ℕ) (h : ℕ) (s : List ℕ) (d : Decision) : T
   pub decides : (w : Word) → judgedRecord word (suc limit) (suc limit) (bufferSize limit) ≡ accepted w
       → DecidedAs (storedForm w) h s d
 
--- A buffer has room for the entry of a record, whose length two bytes can say.
+-- A buffer has room for the entry of a record, whose length two bytes can say; two fields frame it.
 pub record Fitting (bytes out : List ℕ) : Type 0 where
+  pub framed : frames bytes ≡ true
   pub room : entryLength (length bytes) ≤ length out
   pub says : entryBase + length bytes < 65536
 
 -- So has a register at the place of a new entry.
 pub record RoomFor (p : Place) (bytes s : List ℕ) : Type 0 where
+  pub framed : frames bytes ≡ true
   pub room : p .end + entryLength (length bytes) ≤ length s
   pub behind : firstSize ≤ p .end
   pub short : length s ≤ registerMost

@@ -2,8 +2,8 @@
 use Prim.Native.Nat.{ℕ}
 use Rattle.refusals.specs.Memory.{Memory, memory}
 use Rattle.words.specs.inside.Writing.{WordWritten}
-use Rattle.words.proofs.Written.{record-inside}
 use Rattle.words.proofs.Lent.{large-written}
+use Rattle.comparisons.proofs.Compared.{framed-two}
 use borrow.Author.Needs.{needs}
 use Rattle.comparisons.proofs.writing.write_two.Statement.{statement}
 use Rattle.comparisons.proofs.writing.write_two.Tie as tie
@@ -88,10 +88,10 @@ bytes-in-requires c κs = search needs
 bytes-in-requires-2 : tie.Need-bytes-in-requires-2
 bytes-in-requires-2 c κs = search needs
 
-same-bytes-requires : tie.Need-same-bytes-requires
-same-bytes-requires c κs =
+verdict-requires : tie.Need-verdict-requires
+verdict-requires c κs =
     let entry = start (call1 (call2 c)) .pre in
-    (record-inside (entry .0) (written1 c), record-inside (entry .1) (written2 c))
+    framed-two (entry .0) (entry .1) (written1 c) (written2 c)
 
 same-length : tie.Need-same-length
 same-length c = search needs
@@ -117,7 +117,7 @@ returns c = record {
   second = c .before .bytes-in2 .result;
   written1 = written1 (c .before);
   written2 = written2 (c .before);
-  says = c .same-bytes .ensures;
+  says = c .verdict .ensures;
 }
 
 pub write-two-spec : {M : Type 1} → statement M
@@ -134,7 +134,7 @@ write-two-spec =
     record-with-requires-2
     bytes-in-requires
     bytes-in-requires-2
-    same-bytes-requires
+    verdict-requires
     same-length
     same-length-2
     same-length-3

@@ -2,9 +2,9 @@
 use mathlib.Core.Path.{_≡_}
 use native.Mathlib.Omega.{arith}
 use lib.ListN.{length, length-set, length-take, length-drop}
-use borrow.Author.Needs.{needs}
 use Rattle.registers.specs.Format.{entryTag}
 use Rattle.updates.proofs.Putting.{entry-put}
+use borrow.Author.Needs.{needs}
 use Rattle.updates.proofs.writing.put_entry.Statement.{statement}
 use Rattle.updates.proofs.writing.put_entry.Tie as tie
 
@@ -68,19 +68,17 @@ put-two-requires-2 c κs =
       length-set (entry .args .out .now) 0 entryTag,
     )
 
-sub-copy : tie.Need-sub-copy
-sub-copy c = omega (arith, start (first (c .before .before)) .pre, kept (c .before .before))
+sub-put-smaller : tie.Need-sub-put-smaller
+sub-put-smaller c = omega (arith, start (first (c .before .before)) .pre, kept (c .before .before))
 
-part-copy-start : tie.Need-part-copy-start
-part-copy-start c = omega (arith, start (first (c .before .before)) .pre, kept (c .before .before))
+part-put-smaller-start : tie.Need-part-put-smaller-start
+part-put-smaller-start c = omega (arith, start (first (c .before .before)) .pre, kept (c .before .before))
 
-part-copy-end : tie.Need-part-copy-end
-part-copy-end c = search needs
+part-put-smaller-end : tie.Need-part-put-smaller-end
+part-put-smaller-end c = search needs
 
-copy-requires : tie.Need-copy-requires
-copy-requires c κs =
-    let three = c .before .before .before in
-    simp (length-take, length-drop) (omega (arith, start (first three) .pre, kept three))
+put-smaller-requires : tie.Need-put-smaller-requires
+put-smaller-requires c κs = search needs
 
 add-result : tie.Need-add-result
 add-result c = search needs
@@ -88,18 +86,18 @@ add-result c = search needs
 same-length : tie.Need-same-length
 same-length c =
     let three = c .before .before .before .before .before .before in
-    omega (arith, start (first three) .pre, kept three, c .before .before .copy .kept)
+    omega (arith, start (first three) .pre, kept three, c .before .before .put-smaller .kept)
 
 returns : tie.Need-returns
 returns c =
-    let copied = c .before .before in
-    let three = copied .before .before .before .before in
+    let put = c .before .before in
+    let three = put .before .before .before .before in
     let four = three .before .before .before .before in
     let two = four .before .before .before .before in
     let entry = start two in
     entry-put (entry .args .number) (entry .args .holder) (entry .args .«record» .now) (entry .args .out .now)
-    (three .put-two2 .last .0) (copied .copy .last .1 .0) (entry .pre) (two .put-two .ensures)
-    (four .put-four .ensures) (three .put-two2 .ensures) (copied .copy .ensures .0) (copied .copy .ensures .1)
+    (three .put-two2 .last .0) (put .put-smaller .last .1 .0) (put .put-smaller .result) (entry .pre)
+    (two .put-two .ensures) (four .put-four .ensures) (three .put-two2 .ensures) (put .put-smaller .ensures)
 
 pub put-entry-spec : {M : Type 1} → statement M
 put-entry-spec =
@@ -110,10 +108,10 @@ put-entry-spec =
     put-two-requires
     put-four-requires
     put-two-requires-2
-    sub-copy
-    part-copy-start
-    part-copy-end
-    copy-requires
+    sub-put-smaller
+    part-put-smaller-start
+    part-put-smaller-end
+    put-smaller-requires
     add-result
     same-length
     returns)

@@ -1,5 +1,7 @@
 -- `put_new` meets its contract: the number, the entry in the part behind the last one, and the mark. Assumes nothing.
+use native.Mathlib.Omega.{arith}
 use borrow.Author.Needs.{needs}
+use Rattle.records.proofs.SmallerRecords.{smaller-long}
 use Rattle.updates.proofs.Putting.{new-put}
 use Rattle.updates.proofs.writing.put_new.Statement.{statement}
 use Rattle.updates.proofs.writing.put_new.Tie as tie
@@ -23,7 +25,17 @@ put-entry-requires : tie.Need-put-entry-requires
 put-entry-requires c κs = search needs
 
 add-put-mark : tie.Need-add-put-mark
-add-put-mark c = search needs
+add-put-mark c =
+    let entered = c .before .before in
+    let four = entered .before .before .before .before in
+    let entry = four .before .before .before .before .before in
+    omega (
+      arith,
+      entry .pre .room,
+      entry .pre .short,
+      entered .put-entry .ensures .ends,
+      smaller-long (entry .args .«record» .now) (entry .pre .framed),
+    )
 
 put-mark-requires : tie.Need-put-mark-requires
 put-mark-requires c κs = search needs
