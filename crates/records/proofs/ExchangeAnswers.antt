@@ -1,13 +1,12 @@
 -- What the functions on a record and its exchange answer, by the frame that was read. Assumes nothing.
 use mathlib.Core.Path.{_≡_, refl, sym, ap, _∙_}
-use mathlib.Core.Bool.{Bool, true, false, cond, not, true≢false}
+use mathlib.Core.Bool.{Bool, true, false, cond, not}
 use mathlib.Core.List.{List}
-use Prim.Native.Nat.{ℕ, _+_, _≤_}
+use Prim.Native.Nat.{ℕ, _≤_}
 use native.Mathlib.Omega.{arith}
 use lib.ListN.{length}
 use lib.Seq.{sets}
 use Rattle.lists.specs.SameBytes.{sameBytes}
-use Rattle.lists.specs.inside.Writes.{Wrote}
 use Rattle.lists.proofs.SameBytes.{same-bytes}
 use Rattle.group.specs.Forms.{Form}
 use Rattle.refusals.specs.declared.Reply.the-variants.{Number}

@@ -1,17 +1,16 @@
 -- Records and forms with their sides exchanged: the exchanged record is that of the exchanged form, the smaller of the
 -- two is not above its exchange, and a form and its exchange have one smaller form. Assumes nothing.
-use mathlib.Core.Path.{_≡_, refl, sym, ap, ap₂, _∙_, subst}
+use mathlib.Core.Path.{_≡_, refl, sym, ap, ap₂, _∙_}
 use mathlib.Core.Bool.{Bool, true, false, cond, true≢false}
-use mathlib.Core.List.{List, _∷_, _++_}
+use mathlib.Core.List.{List, _∷_}
 use mathlib.Core.Logic.{_⊎_, inl, inr}
-use Prim.Native.Nat.{ℕ, _+_, _<_, _≤_}
+use Prim.Native.Nat.{ℕ, _<_, _≤_}
 use native.Mathlib.Omega.{arith}
-use lib.ListN.{length, take, drop, length-append}
+use lib.ListN.{take}
 use lib.Seq.{take-at, take-length}
 use Rattle.group.specs.Forms.{Side, bSide, aSide, Form, empty, level, exponent, exponents}
 use Rattle.group.specs.Limits.{limit}
 use Rattle.group.specs.Products.{exchange}
-use Rattle.group.proofs.Reduced.{Canonical}
 use Rattle.group.proofs.Exchange.{exchange-exponent, exchange-canonical, exchange-twice, exchange-sum}
 use Rattle.fields.specs.Fields.{Bytes, field}
 use Rattle.records.specs.Format.{powers, entries, aTag, encode, Within, IsRecord}

@@ -2,16 +2,16 @@
 -- writing those parts says of the record and its exchange. Assumes nothing.
 use mathlib.Core.Path.{_≡_, refl, sym, ap, ap₂, _∙_}
 use mathlib.Core.Bool.{Bool, true, false, true≢false}
-use mathlib.Core.List.{List}
+use mathlib.Core.List.{List, _++_}
 use mathlib.Core.Logic.{_↔_}
 use Prim.Native.Nat.{ℕ, _+_, _-_, _<_, _≤_}
 use native.Mathlib.Omega.{arith}
 use lib.ListN.{length, take, drop, length-drop}
-use lib.Seq.{sets, length-take-le}
+use lib.Seq.{sets, length-sets, length-take-le}
 use Rattle.lists.specs.SameBytes.{sameBytes}
 use Rattle.lists.specs.inside.Writes.{Wrote}
 use Rattle.lists.proofs.SameBytes.{same-bytes, bytes-same}
-use Rattle.lists.proofs.Writes.{write-then}
+use Rattle.lists.proofs.Writes.{write-then, write-part}
 use Rattle.refusals.specs.declared.Reply.{Reply}
 use Rattle.refusals.specs.Outcomes.{Outcome, after}
 use Rattle.refusals.specs.Placing.{Placed}
@@ -28,18 +28,25 @@ use Rattle.records.proofs.Frames.{Opened, frame-opens, exact-frames}
 use Rattle.records.proofs.Exchanges.{body-b, body-a, bodies-written}
 use Rattle.records.proofs.ByteOrder.{above-longer, above-shorter, above-even}
 
+-- The parts that are lent on: from the b side's body to an end, from an offset on.
+abbrev bPart : List ℕ → ℕ → List ℕ
+bPart s b = take ((headSize + b) - headSize) (drop headSize s)
+
+abbrev partFrom : ℕ → List ℕ → List ℕ
+partFrom f s = take (length s - f) (drop f s)
+
 -- Bytes that two fields frame, with bodies of these lengths.
 module _ (s : List ℕ) (b a : ℕ) (e : frameOf s ≡ Exact b a) where
   opened : Opened s b a
   opened = frame-opens s b a e
 
   -- The bodies as the parts from an offset to another, and from an offset to the end.
-  pub part-b : take ((headSize + b) - headSize) (drop headSize s) ≡ bBody s
+  pub part-b : bPart s b ≡ bBody s
   part-b =
       let size : (headSize + b) - headSize ≡ bLength s = omega (arith, opened .first) in
       ap (λ (n : ℕ). take n (drop headSize s)) size
 
-  pub part-a : take (length s - (baseSize + b)) (drop (baseSize + b) s) ≡ aBody s
+  pub part-a : partFrom (baseSize + b) s ≡ aBody s
   part-a =
       let size : length s - (baseSize + b) ≡ aLength s = omega (arith, opened .whole, opened .second) in
       let start : baseSize + b ≡ aStart s = omega (arith, opened .first) in
@@ -58,10 +65,10 @@ module _ (s : List ℕ) (b a : ℕ) (e : frameOf s ≡ Exact b a) where
       ∙ sym (opened .second)
 
   -- A body has no more bytes than a field can say.
-  pub most-b : Bytes s → b ≤ mostBody
+  most-b : Bytes s → b ≤ mostBody
   most-b bytes = omega (arith, opened .first, bytes 1, bytes 2)
 
-  pub most-a : Bytes s → a ≤ mostBody
+  most-a : Bytes s → a ≤ mostBody
   most-a bytes = omega (arith, opened .second, bytes (4 + bLength s), bytes (4 + bLength s + 1))
 
   -- The bytes are those of the two fields.
@@ -112,7 +119,7 @@ module _ (s t : List ℕ) where
       go false false h k = refl
 
 -- What lies behind an offset has room for as many bytes as the whole has behind it.
-pub part-room : (f n : ℕ) (l : List ℕ) → f + n ≤ length l → n ≤ length (take (length l - f) (drop f l))
+part-room : (f n : ℕ) (l : List ℕ) → f + n ≤ length l → n ≤ length (partFrom f l)
 part-room f n l h =
     omega (
       arith,
@@ -122,7 +129,7 @@ part-room f n l h =
     )
 
 -- A field that was placed where it fits.
-pub placed-field : (tag : ℕ) (body out : List ℕ) {out′ : List ℕ} {r : Reply} (n : ℕ)
+placed-field : (tag : ℕ) (body out : List ℕ) {out′ : List ℕ} {r : Reply} (n : ℕ)
     → Placed (fieldIn tag body out) out out′ r → length body ≡ n → n ≤ mostBody → headSize + n ≤ length out
     → Wrote (field tag body) out 0 out′ (headSize + n)
 placed-field tag body out n h long most room =
@@ -131,3 +138,26 @@ placed-field tag body out n h long most room =
       ends = omega (arith, long);
       holds = h .bytes ∙ ap (λ (o : Outcome (List ℕ)). after o out (λ bytes. sets out 0 bytes)) fits;
     }
+
+-- The a side's body was placed in the first field, and the b side's in the one behind it, in the part that was lent on.
+pub exchange-put : (s out : List ℕ) (b a : ℕ) (mid y : List ℕ) {r q : Reply} → frameOf s ≡ Exact b a → Bytes s
+    → length s ≤ length out
+    → Placed (fieldIn bTag (partFrom (baseSize + b) s) out) out mid r
+    → Placed (fieldIn aTag (bPart s b) (partFrom (headSize + a) mid)) (partFrom (headSize + a) mid) y q
+    → take (headSize + a) mid ++ (y ++ drop (length mid - (headSize + a)) (drop (headSize + a) mid))
+    ≡ sets out 0 (exchanged s)
+exchange-put s out b a mid y e bytes room one two =
+    let whole = frame-opens s b a e .whole in
+    let first-part : List ℕ = partFrom (baseSize + b) s in
+    let first-body = part-a s b a e in
+    let second-body = part-b s b a e in
+    let first =
+    placed-field bTag first-part out a one (ap length first-body ∙ long-a s b a e) (most-a s b a e bytes)
+    (omega (arith, whole, room)) in
+    let long : length mid ≡ length out = ap length (first .holds) ∙ length-sets out 0 (field bTag first-part) in
+    let behind : headSize + a + (headSize + b) ≤ length mid = omega (arith, whole, room, long) in
+    let second =
+    placed-field aTag (bPart s b) (partFrom (headSize + a) mid) b two (ap length second-body ∙ long-b s b a e)
+    (most-b s b a e bytes) (part-room (headSize + a) (headSize + b) mid behind) in
+    write-then first (write-part (headSize + a) _ mid y (headSize + b) (omega (arith, behind)) second) .holds
+    ∙ ap₂ (λ (i j : List ℕ). sets out 0 (field bTag i ++ field aTag j)) first-body second-body

@@ -1,9 +1,9 @@
 -- The smaller of a record and its exchange, written at the front of a buffer: it has as many bytes as the record, and
 -- those that are counted lie inside the buffer. Assumes nothing.
-use mathlib.Core.Path.{_≡_, refl, sym, ap, _∙_, subst}
+use mathlib.Core.Path.{_≡_, refl, ap, _∙_, subst}
 use mathlib.Core.Bool.{Bool, true, false, cond}
 use mathlib.Core.List.{List}
-use Prim.Native.Nat.{ℕ, _+_, _-_, _≤_}
+use Prim.Native.Nat.{ℕ, _-_, _≤_}
 use native.Mathlib.Decide.{decLe}
 use native.Mathlib.Omega.{arith}
 use lib.ListN.{length, take, drop, length-append, length-drop}
@@ -13,7 +13,7 @@ use Rattle.lists.proofs.Writes.{sets-front}
 use Rattle.group.specs.Forms.{Form}
 use Rattle.refusals.specs.declared.Reply.{Reply}
 use Rattle.refusals.specs.declared.Reply.the-variants.{Number, Refused}
-use Rattle.refusals.specs.Outcomes.{Outcome, accepted, refused, after, valued, replyOf}
+use Rattle.refusals.specs.Outcomes.{Outcome, refused, valued, replyOf}
 use Rattle.refusals.specs.inside.Verdicts.{countIn}
 use Rattle.refusals.specs.Placing.{fitting, Placed}
 use Rattle.refusals.proofs.Outcomes.{accepted-refused}
@@ -50,9 +50,6 @@ smaller-long s e = go (isAbove s)
     go : (p : Bool) → length (cond p (exchanged s) s) ≡ length s
     go true = exchanged-long s (frames→frame s e)
     go false = refl
-
-pub smaller-size : (f : Form) → length (encode (smallerForm f)) ≡ length (encode f)
-smaller-size f = ap length (sym (smaller-encode f)) ∙ smaller-long (encode f) (frames-encode f)
 
 module _ (s out : List ℕ) {out′ : List ℕ} (r : Reply) (h : Placed (smallerIn s out) out out′ r) where
   -- Bytes that are framed, and a buffer that has room for them: the smaller is written.

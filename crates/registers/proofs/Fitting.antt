@@ -11,11 +11,7 @@ use lib.Dec.{ltb}
 use types.Run.{OneOf}
 use denote.Enum.Declared.{tagOf}
 use borrow.Author.Tests.{lt-ltb, le-ltb}
-use Rattle.refusals.specs.declared.Refusal.{Refusal}
 use Rattle.refusals.specs.declared.Refusal.the-variants.{BadRegister}
-use Rattle.refusals.specs.declared.Verdict.{Verdict}
-use Rattle.refusals.specs.declared.Verdict.the-variants as Verdicts
-use Rattle.refusals.specs.Outcomes.{Outcome, accepted, refused, dropValue, refusal, verdictOf}
 use Rattle.registers.specs.declared.EntryAt.{EntryAt}
 use Rattle.registers.specs.declared.EntryAt.the-variants as Entries
 use Rattle.registers.specs.declared.Heading.{Heading}

@@ -1,16 +1,11 @@
 -- `put_exchange` meets its contract: the a side's body in the first field, the b side's in that behind it. Assumes
 -- nothing.
-use mathlib.Core.Path.{_≡_, ap, ap₂, _∙_}
-use mathlib.Core.List.{List, _++_}
-use Prim.Native.Nat.{ℕ, _+_, _-_, _≤_}
+use mathlib.Core.Path.{_≡_}
+use Prim.Native.Nat.{_+_}
 use native.Mathlib.Omega.{arith}
-use lib.ListN.{length, take, drop}
-use lib.Seq.{sets}
-use Rattle.fields.specs.Fields.{Bytes, field}
-use Rattle.records.specs.Format.{bTag, aTag}
-use Rattle.lists.proofs.Writes.{write-then, write-part}
+use lib.ListN.{length}
 use Rattle.records.proofs.Frames.{frame-opens}
-use Rattle.records.proofs.Sides.{part-b, part-a, long-b, long-a, most-b, most-a, part-room, placed-field}
+use Rattle.records.proofs.Sides.{exchange-put}
 use borrow.Author.Needs.{needs}
 use Rattle.records.proofs.exchange.put_exchange.Statement.{statement}
 use Rattle.records.proofs.exchange.put_exchange.Tie as tie
@@ -53,12 +48,14 @@ part-put-field-end-2 c =
 
 sub-put-field-3 : tie.Need-sub-put-field-3
 sub-put-field-3 c =
-    let at-start = c .before .before .before .before .before .before .before .before in
+    let at-first = c .before .before .before in
+    let at-start = at-first .before .before .before .before .before in
     omega (arith, whole at-start, at-start .pre .1)
 
 part-put-field-start-3 : tie.Need-part-put-field-start-3
 part-put-field-start-3 c =
-    let at-start = c .before .before .before .before .before .before .before .before in
+    let at-first = c .before .before .before in
+    let at-start = at-first .before .before .before .before .before in
     omega (arith, whole at-start, at-start .pre .1)
 
 part-put-field-end-3 : tie.Need-part-put-field-end-3
@@ -77,26 +74,10 @@ returns c =
     let at-bytes = at-first .before .before .before in
     let at-start = at-bytes .before .before in
     let args = at-start .args in
-    let s = args .s .now in
-    let b = args .b-length in
-    let a = args .a-length in
-    let framed = at-start .pre .0 in
-    let first-part : List ℕ = take (length s - (6 + b)) (drop (6 + b) s) in
-    let second-part : List ℕ = take ((3 + b) - 3) (drop 3 s) in
-    let first-body = part-a s b a framed in
-    let second-body = part-b s b a framed in
-    let bytes : Bytes s = λ i. omega (arith, at-bytes .before .shared-slice-known .given i) in
-    let mid : List ℕ = at-first .put-field .last .1 .1 .0 in
-    let room : 3 + a + (3 + b) ≤ length mid = omega (arith, whole at-start, at-start .pre .1) in
-    let first =
-    placed-field bTag first-part (args .out .now) a (at-first .put-field .ensures)
-    (ap length first-body ∙ long-a s b a framed)
-    (most-a s b a framed bytes) (omega (arith, whole at-start, at-start .pre .1)) in
-    let second =
-    placed-field aTag second-part _ b (at-second .put-field2 .ensures) (ap length second-body ∙ long-b s b a framed)
-    (most-b s b a framed bytes) (part-room (3 + a) (3 + b) mid room) in
-    write-then first (write-part (3 + a) _ mid _ (3 + b) (omega (arith, room)) second) .holds
-    ∙ ap₂ (λ (x y : List ℕ). sets (args .out .now) 0 (field bTag x ++ field aTag y)) first-body second-body
+    exchange-put (args .s .now) (args .out .now) (args .b-length) (args .a-length) (at-first .put-field .last .1 .1 .0)
+    (at-second .put-field2 .last .1 .1 .0) (at-start .pre .0)
+    (λ i. omega (arith, at-bytes .before .shared-slice-known .given i)) (at-start .pre .1)
+    (at-first .put-field .ensures) (at-second .put-field2 .ensures)
 
 pub put-exchange-spec : {M : Type 1} → statement M
 put-exchange-spec =

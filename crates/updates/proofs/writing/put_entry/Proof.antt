@@ -1,7 +1,7 @@
 -- `put_entry` meets its contract: tag, length, number, holder and record are one run of bytes. Assumes nothing.
 use mathlib.Core.Path.{_≡_}
 use native.Mathlib.Omega.{arith}
-use lib.ListN.{length, length-set, length-take, length-drop}
+use lib.ListN.{length, length-set}
 use Rattle.registers.specs.Format.{entryTag}
 use Rattle.updates.proofs.Putting.{entry-put}
 use borrow.Author.Needs.{needs}
