@@ -121,7 +121,8 @@ count-inside {word} {entry} {exit} {r} h = go (judgedWith word entry) refl
 -- A decision on it is one on the word.
 pub decided-with : {word : List ℕ} {entry exit : Memory} {r q : Reply} {h n m : ℕ} {s out′ : List ℕ} {d : Decision}
     (out : List ℕ) → Recorded word entry exit r → n ≡ countIn r
-    → Placed (smallerIn (take n (exit .buffer)) out) out out′ q → m ≡ countIn q → Judged (take m out′) h s d → DecidedWith word entry (length out) h s d
+    → Placed (smallerIn (take n (exit .buffer)) out) out out′ q → m ≡ countIn q → Judged (take m out′) h s d
+    → DecidedWith word entry (length out) h s d
 decided-with {word} {entry} {exit} {r} {q} {h} {n} {m} {s} {out′} {d} out told e placed k j = record {
   are-bytes = j .are-bytes;
   decides = λ w so room. j .decides (storedForm w)
