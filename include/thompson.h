@@ -124,7 +124,7 @@ typedef struct {
 } thompson_answer;
 
 /* A filing: a refusal's number and place, or 0 and the entry's number; `present` is 1 where that entry held the element
-   before, else 0; `word` is the word that this is said of, 0 where one word is filed. */
+   or its inverse before, else 0; `word` is the word that this is said of, 0 where one word is filed. */
 typedef struct {
     uint64_t refusal;
     uint64_t value;

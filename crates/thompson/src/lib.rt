@@ -39,7 +39,7 @@ pub struct Answer {
 }
 
 // A filing's answer: a refusal's number and place, or 0 and the entry's number; 1 where that entry held the element
-// before, else 0; and the word that this is said of, 0 where one word is filed.
+// or its inverse before, else 0; and the word that this is said of, 0 where one word is filed.
 #[repr(C)]
 pub struct Filing {
     pub refusal: u64,

@@ -1,5 +1,5 @@
-// A word entered into a register of first filings, and a holder's account (02, [3]). All is judged first, in arrays of
-// the call's own, and what was lent is written last.
+// A word entered into a register of first filings, in which an element and its inverse share an entry, and a holder's
+// account (02, [3] and [7]). All is judged first, in arrays of the call's own, and what was lent is written last.
 ghost use Rattle.refusals.specs.Memory.{memory};
 ghost use Rattle.updates.specs.Accounts.{AccountRead};
 ghost use Rattle.updates.specs.Entering.{EnteredWord};
@@ -19,7 +19,8 @@ pub struct Account {
     pub live: u64,
 }
 
-// The number of a new entry, or of the one that holds the element, with the account then of the holder who files.
+// The number of a new entry, or of the one that holds the element or its inverse, with the account then of the holder
+// who files.
 pub enum Entered {
     New(u32, Account),
     Present(u32, Account),
@@ -46,7 +47,8 @@ pub fn account_of(register: &[u8], holder: u16) -> AccountOf
     }
 }
 
-// A word, filed under a holder: refusals 1, 2, 6, 7, then 12; the entry that holds the element; 13, 14; a new entry.
+// A word, filed under a holder: refusals 1, 2, 6, 7, then 12; the entry that holds the element or its inverse; 13, 14;
+// a new entry.
 pub fn enter_word(
     word: &[u8],
     b_table: &mut [u16],
