@@ -233,7 +233,9 @@ fn measure(random: &mut Random) {
     println!("end: subtree_end of node 0; before: carets_before of the last node; both of {CARETS} carets");
     println!("grow: grow_caret at leaf 0 of {} carets; pack, unpack: of {CARETS}", CARETS - 1);
     print!("{:<14}", "shape");
-    ["end", "before", "grow", "pack", "unpack"].iter().for_each(|call| print!(" |{call:>9}{:>9}{:>7}", "plain", "ratio"));
+    for call in ["end", "before", "grow", "pack", "unpack"] {
+        print!(" |{call:>9}{:>9}{:>7}", "plain", "ratio");
+    }
     println!(" | grow to before");
     let random_shape = [shapes::random(CARETS, random), shapes::random(CARETS - 1, random)];
     let kinds = [

@@ -20,8 +20,8 @@ fn choice(i: u32) -> (u32, u32) {
     (i / HALF, 1 + i % HALF)
 }
 
-// So many records at most, all with the fingerprint of the inverse of x0 x2048. The records have no b side, so that none
-// is above the one with its sides exchanged.
+// So many records at most, all with the fingerprint of the inverse of x0 x2048. The records have no b side, so that
+// none is above the one with its sides exchanged.
 pub fn records(most: usize) -> Vec<Vec<u8>> {
     let front = print(0, &[1, 0, 0, 2, 0, 8]);
     let back = |i| {
@@ -54,8 +54,8 @@ pub fn records(most: usize) -> Vec<Vec<u8>> {
 }
 
 // So many records at most of n powers, all but the last power the same. The first third are any; of each of the others
-// both halves of the fingerprint are halves of fingerprints before. The last powers are gone through in steps of a prime,
-// since neighbours have neighbouring fingerprints.
+// both halves of the fingerprint are halves of fingerprints before. The last powers are gone through in steps of a
+// prime, since neighbours have neighbouring fingerprints.
 pub fn marked(n: u32, most: usize) -> Vec<Vec<u8>> {
     let ones = (0..n - 1).flat_map(|k| power(k, 1));
     let front: Vec<u8> = [1, 0, 0, 2, (n >> 6) as u8, (n << 2) as u8].into_iter().chain(ones).collect();

@@ -16,7 +16,7 @@ pub const KINDS: &[Kind] = &[
     Kind { name: "a word, respelled", pairs: 10000, make: |r| beside(r, |w| w) },
     Kind { name: "a word, its inverse respelled", pairs: 10000, make: |r| beside(r, |w| inverse(&w)) },
     Kind { name: "a word, read backwards", pairs: 5000, make: |r| beside(r, |w| w.into_iter().rev().collect()) },
-    Kind { name: "a word, each letter inverted", pairs: 5000, make: |r| beside(r, |w| w.iter().map(flipped).collect()) },
+    Kind { name: "a word, each letter inverted", pairs: 5000, make: |r| beside(r, each_inverted) },
     Kind { name: "words for the identity", pairs: 2000, make: identities },
     Kind { name: "a byte that is no letter", pairs: 2000, make: |r| [odd(r), short(9, r)] },
     Kind { name: "the same in the second", pairs: 2000, make: |r| [short(9, r), odd(r)] },
@@ -25,6 +25,10 @@ pub const KINDS: &[Kind] = &[
 
 fn flipped(x: &u8) -> u8 {
     x ^ 32
+}
+
+fn each_inverted(word: Vec<u8>) -> Vec<u8> {
+    word.iter().map(flipped).collect()
 }
 
 pub fn inverse(word: &[u8]) -> Vec<u8> {

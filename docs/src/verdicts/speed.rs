@@ -33,8 +33,8 @@ fn slices([u, v]: &Pair) -> [&[u8]; 2] {
     [u, v]
 }
 
-// The medians of the programs over all pairs, in microseconds a call: each in turn in each run, and each run begins with
-// another one.
+// The medians of the programs over all pairs, in microseconds a call: each in turn in each run, and each run begins
+// with another one.
 fn medians(calls: &[Call], pairs: &[Pair]) -> Vec<f64> {
     let mut times = vec![Vec::new(); calls.len()];
     let mut memory = slices(&pairs[0]).map(|word| lent(word, [0, 0, 0]));
