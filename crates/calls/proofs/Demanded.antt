@@ -182,7 +182,7 @@ demanded-of-exports = record {
       let k = memory (now c) (now d) (now g) in
       let k′ = memory (now c′) (now d′) (now g′) in
       let x = exports-answer-as-calls .same-element (now u) (now v) m m′ k k′ r h in
-      subst (λ (o : Decision). TwoWords (now u) m m′ (now v) k k′ o) (sym (x .2)) (same-element (x .1)));
+      (subst (λ (o : Decision). TwoWords (now u) m m′ (now v) k k′ o) (sym (x .2)) (same-element (x .1)), x .3));
   text-to-record = always-below (exports .text-to-record) (λ κs t t′ b b′ a a′ e e′ r h.
       let m = memory (now b) (now a) (now e) in
       let m′ = memory (now b′) (now a′) (now e′) in

@@ -123,8 +123,10 @@ demanded-of-registers = record {
   exported-enter-word = always-below (exports .enter-word) (λ κs u u′ b b′ a a′ e e′ h h′ s s′ r c.
       let m = memory (now b) (now a) (now e) in
       let m′ = memory (now b′) (now a′) (now e′) in
-      let x = exports-answer-as-calls .enter-word (now u) m m′ h (now s) (now s′) r c in
-      subst (λ (o : Outcome Reply). EnterWord (now u) m m′ h (now s) (now s′) o) (sym (x .2)) (enter-word (x .1)));
+      let x = exports-answer-as-calls .enter-word (now u) m m′ h (now s) (now s′) r c in (
+        subst (λ (o : Outcome Reply). EnterWord (now u) m m′ h (now s) (now s′) o) (sym (x .2)) (enter-word (x .1)),
+        x .3,
+      ));
   exported-live-entries = always-below (exports .live-entries) (λ κs s s′ h h′ r c.
       let x = exports-answer-as-calls .live-entries (now s) h r c in
       subst (λ (o : Outcome ℕ). LiveEntries (now s) h o) (sym (x .2)) (live-entries (x .1)));

@@ -22,12 +22,12 @@ use Rattle.notation.specs.Contracts.{TextRecorded, TextWritten}
 use Rattle.registers.specs.Finding.{found}
 use Rattle.registers.specs.Answers.{RegisterChecked, Summarised, searchOf, headingAt}
 use Rattle.updates.specs.Accounts.{AccountRead}
-use Rattle.updates.specs.Entering.{enteredOf, EnteredWord}
+use Rattle.updates.specs.Entering.{repliedOf, EnteredWord}
 use Rattle.packed.specs.Packing.{caretsBefore}
 use Rattle.packed.specs.Answers.{nodeEndOf}
 use Rattle.packed.specs.Contracts.{packing, unpacking, growing, Repacked, AnswersNode}
 use Rattle.receipts.specs.Contracts.{Begun, ServedPart, Finished}
-use Rattle.thompson.specs.Codes.{codeOf, codeOfDecision, codeOfEntered, liveOf, Passed}
+use Rattle.thompson.specs.Codes.{codeOf, codeOfDecision, codeOfReply, liveOf, Passed}
 use Rattle.calls.specs.Always.{Always}
 use Rattle.words.proofs.word_to_record as word-to-record
 use Rattle.comparisons.proofs.same_element as same-element
@@ -154,7 +154,7 @@ pub record Exports : Type 2 where
   pub record-to-text : Always thompson-record-to-text.ended thompson-record-to-text.Symbol.routine
       (λ κs s s′ t t′ r. Passed (λ x. codeOf (replyOf x)) (TextWritten (now s) (now t) (now t′)) r)
   pub enter-word : Always thompson-enter-word.ended thompson-enter-word.Symbol.routine
-      (λ κs u u′ b b′ a a′ e e′ h h′ s s′ r. Passed (λ x. codeOfEntered (enteredOf x)) (EnteredWord (now u)
+      (λ κs u u′ b b′ a a′ e e′ h h′ s s′ r. Passed (λ x. codeOfReply (repliedOf x)) (EnteredWord (now u)
       (memory (now b) (now a) (now e)) (memory (now b′) (now a′) (now e′)) h (now s) (now s′)) r)
   pub check-register : Always thompson-check-register.ended thompson-check-register.Symbol.routine
       (λ κs s s′ r. Passed (λ x. codeOf (verdictOf x)) (RegisterChecked (now s)) r)

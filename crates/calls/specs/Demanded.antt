@@ -12,9 +12,10 @@
 --     replyOf, verdictOf          an answer as accepted n, or as refused with number and place    refusals, Outcomes
 --     decisionOf                  same, inverse, different, or a refusal of word 0 or 1       comparisons, Comparing
 --     outcomeOf, decisionIn       the same of the two numbers that an export answers              thompson, Codes
+--     codeOfDecision              the two numbers of a decision: 1 same, 2 inverse, 0 different   thompson, Codes
 --     Refuses o R                 each refusal is o just when its condition R holds               claims, Answers
 --     RefusesWords d R S          the same of two words, the first word's refusals first          claims, Answers
---     IsRefused, WordRefused, IsAccepted, Answered, None R    a refusal; a value; no condition    claims, Answers
+--     IsRefused, WordRefused, Answered, None R    a refusal; a verdict; no condition              claims, Answers
 --     WordRefusal, RecordRefusal, PairRefusal, SpellingRefusal    the conditions, one by one      claims, Refusals
 --     TextRefusal, PhraseRefusal  the same of a text; of a record that is to be written as text   claims, Refusals
 --     RecordOfWord, PairOfRecord, LengthOfRecord, WordOfRecord, VerdictOfWords    what is given   claims, Given
@@ -47,8 +48,8 @@ use Rattle.records.specs.Format.{IsRecord, Within}
 use Rattle.tokens.specs.Tokens.{AllInRange}
 use Rattle.tokens.specs.Texts.{textOf}
 use Rattle.comparisons.specs.Comparing.{Decision, decisionOf}
-use Rattle.thompson.specs.Codes.{outcomeOf, decisionIn}
-use Rattle.claims.specs.Answers.{Refuses, IsRefused, IsAccepted, RefusesWords, WordRefused, Answered, None}
+use Rattle.thompson.specs.Codes.{outcomeOf, decisionIn, codeOfDecision}
+use Rattle.claims.specs.Answers.{Refuses, IsRefused, RefusesWords, WordRefused, Answered, None}
 use Rattle.claims.specs.Refusals.{WordRefusal, RecordRefusal, PairRefusal, SpellingRefusal, TextRefusal, PhraseRefusal}
 use Rattle.claims.specs.Given.{RecordOfWord, PairOfRecord, LengthOfRecord, WordOfRecord, VerdictOfWords}
 use Rattle.claims.specs.Given.{RecordOfText, TextOfRecord}
@@ -81,7 +82,7 @@ pub record WordToRecord (u : List ℕ) (m m′ : Memory) (o : Outcome ℕ) : Typ
 -- Record check; nothing is lent to write to.
 pub record CheckRecord (s : List ℕ) (o : Outcome ℕ) : Type 0 where
   pub refuses : Refuses o (RecordRefusal s)
-  pub accepts : IsAccepted o ↔ ((f : Form) × IsRecord s f)
+  pub accepts : (o ≡ accepted 0) ↔ ((f : Form) × IsRecord s f)
 
 -- Record to tree pair.
 pub record RecordToTreePair (s p q p′ q′ : List ℕ) (o : Outcome ℕ) : Type 0 where
@@ -144,7 +145,7 @@ pub record Demanded : Type 2 where
   pub record-to-text : Always record-to-text.ended record-to-text.Symbol.routine
       (λ κs s s′ t t′ r. RecordToText (now s) (now t) (now t′) (replyOf r))
 
--- The same of the exports.
+-- The same of the exports; the numbers on two words are just those of the decision that is read in them.
 pub record DemandedOfExports : Type 2 where
   pub word-to-record : Always thompson-word-to-record.ended thompson-word-to-record.Symbol.routine
       (λ κs u u′ b b′ a a′ e e′ r. WordToRecord (now u) (memory (now b) (now a) (now e))
@@ -162,7 +163,8 @@ pub record DemandedOfExports : Type 2 where
   pub same-element : Always thompson-same-element.ended thompson-same-element.Symbol.routine
       (λ κs u u′ b b′ a a′ e e′ v v′ c c′ d d′ g g′ r. TwoWords
       (now u) (memory (now b) (now a) (now e)) (memory (now b′) (now a′) (now e′))
-      (now v) (memory (now c) (now d) (now g)) (memory (now c′) (now d′) (now g′)) (decisionIn r))
+      (now v) (memory (now c) (now d) (now g)) (memory (now c′) (now d′) (now g′)) (decisionIn r)
+      × (r ≡ codeOfDecision (decisionIn r)))
   pub text-to-record : Always thompson-text-to-record.ended thompson-text-to-record.Symbol.routine
       (λ κs t t′ b b′ a a′ e e′ r. TextToRecord (now t) (memory (now b) (now a) (now e))
       (memory (now b′) (now a′) (now e′)) (outcomeOf r))

@@ -7,6 +7,7 @@
 -- The names used, what each is, and the crate and file of its specs that define it:
 --     repliedOf, enteredOf        a filing's answer as accepted, or refused with number and place   updates, Entering
 --     liveOf, replyIn, outcomeOf  the live count; what a caller reads in the numbers of an export   thompson, Codes
+--     codeOfReply                 the four numbers of a filing's reply                              thompson, Codes
 --     RegisterRefusal, EnterRefusal   the conditions, one by one                                    claims, Registers
 --     IsRegister s                the bytes are some register                                       claims, Registers
 --     WellFormed s q              the bytes are the register q                                  registers, WellFormed
@@ -29,8 +30,8 @@ use Rattle.registers.specs.Format.{Register, registerBytes}
 use Rattle.registers.specs.Reading.{live}
 use Rattle.registers.specs.WellFormed.{WellFormed}
 use Rattle.updates.specs.Entering.{Reply, newEntry, Answer, replyNumber, storedForm, enteredOf, repliedOf}
-use Rattle.thompson.specs.Codes.{outcomeOf, liveOf, replyIn}
-use Rattle.claims.specs.Answers.{Refuses, IsRefused, IsAccepted}
+use Rattle.thompson.specs.Codes.{outcomeOf, liveOf, replyIn, codeOfReply}
+use Rattle.claims.specs.Answers.{Refuses, IsRefused}
 use Rattle.claims.specs.Registers.{IsRegister, RegisterRefusal, EnterRefusal, EnteredAs, OnlyNew, StoredSmaller}
 use Rattle.claims.specs.Registers.{Charged}
 use Rattle.calls.specs.Always.{Always}
@@ -44,7 +45,7 @@ use Rattle.thompson.proofs.thompson_live_entries as thompson-live-entries
 -- Register check; nothing is lent to write to.
 pub record CheckRegister (s : List ℕ) (o : Outcome ℕ) : Type 0 where
   pub refuses : Refuses o (RegisterRefusal s)
-  pub accepts : IsAccepted o ↔ IsRegister s
+  pub accepts : (o ≡ accepted 0) ↔ IsRegister s
 
 -- A filing.
 pub record EnterWord (u : List ℕ) (m m′ : Memory) (h : ℕ) (s s′ : List ℕ) (o : Outcome Reply) : Type 0 where
@@ -61,7 +62,7 @@ pub record LiveEntries (s : List ℕ) (h : ℕ) (o : Outcome ℕ) : Type 0 where
   pub refuses : Refuses o (RegisterRefusal s)
   pub gives : (n : ℕ) → o ≡ accepted n → (q : Register) × WellFormed s q × (n ≡ live h (q .entries))
 
--- The functions, then the exports.
+-- The functions, then the exports; the numbers of a filing are just those of the reply that is read in them.
 pub record DemandedOfRegisters : Type 2 where
   pub check-register : Always check-register.ended check-register.Symbol.routine
       (λ κs s s′ r. CheckRegister (now s) (verdictOf r))
@@ -75,6 +76,6 @@ pub record DemandedOfRegisters : Type 2 where
       (λ κs s s′ r. CheckRegister (now s) (outcomeOf r))
   pub exported-enter-word : Always thompson-enter-word.ended thompson-enter-word.Symbol.routine
       (λ κs u u′ b b′ a a′ e e′ h h′ s s′ r. EnterWord (now u) (memory (now b) (now a) (now e))
-      (memory (now b′) (now a′) (now e′)) h (now s) (now s′) (replyIn r))
+      (memory (now b′) (now a′) (now e′)) h (now s) (now s′) (replyIn r) × (r ≡ codeOfReply (replyIn r)))
   pub exported-live-entries : Always thompson-live-entries.ended thompson-live-entries.Symbol.routine
       (λ κs s s′ h h′ r. LiveEntries (now s) h (outcomeOf r))

@@ -8,7 +8,8 @@ use Rattle.group.specs.Letters.{Word}
 use Rattle.group.specs.Bytes.{bytesOf}
 use Rattle.group.specs.Chains.{Joined}
 use Rattle.group.specs.Forms.{Form}
-use Rattle.refusals.specs.Outcomes.{replyOf, verdictOf}
+use Rattle.refusals.specs.Outcomes.{accepted, dropValue, replyOf, verdictOf}
+use Rattle.refusals.proofs.Outcomes.{valued-accepted}
 use Rattle.refusals.specs.declared.Verdict.{Verdict}
 use Rattle.refusals.specs.declared.Reply.{Reply}
 use Rattle.refusals.specs.Memory.{Memory}
@@ -23,7 +24,7 @@ use Rattle.tokens.proofs.Texts.{text-injective}
 use Rattle.thompson.specs.Codes.{readOutcome, outcomeOf}
 use Rattle.thompson.proofs.Codes.{reply-read}
 use Rattle.claims.specs.Refusals.{WordRefusal, RecordRefusal}
-use Rattle.claims.specs.Answers.{IsRefused, IsAccepted, Refuses}
+use Rattle.claims.specs.Answers.{IsRefused, Refuses}
 use Rattle.claims.specs.Registers.{RegisterRefusal}
 use Rattle.claims.specs.Calls.{CallOn, byWord, byText, recordBy, MemoryCall, SpellingCall, spelledBy, TwoWordCall}
 use Rattle.claims.specs.Calls.{ExportedMemoryCall, ExportedCall, exportedWord, exportedText, exportedRecord}
@@ -62,11 +63,16 @@ check-refused {s} h =
     refuses-when (λ f. 0) (decode s) (h .result) (RecordRefusal s) (decoded↔refusal s (h .are-bytes))
 
 -- It accepts the records of forms and nothing else.
-check-accepts : {s : List ℕ} {r : Verdict} → Checked s r → IsAccepted (verdictOf r) ↔ ((f : Form) × IsRecord s f)
+check-accepts : {s : List ℕ} {r : Verdict} → Checked s r → (verdictOf r ≡ accepted 0) ↔ ((f : Form) × IsRecord s f)
 check-accepts {s} h =
     let accepts = check-refused h .accepted-just-when in
-    let records = records-are-accepted s (h .are-bytes) in
-    ((λ a. records .0 (accepts .0 a)), λ f. accepts .1 (records .1 f))
+    let records = records-are-accepted s (h .are-bytes) in (
+      (λ e. records .0 (accepts .0 (0, e))),
+      λ f.
+          let a = accepts .1 (records .1 f) in
+          let x = valued-accepted (λ g. 0) (decode s) (a .0) (sym (h .result) ∙ a .1) in
+          h .result ∙ ap (λ o. dropValue o) (x .1),
+    )
 
 -- Two accepted words have equal records just when a chain joins them.
 equal↔joined : (w x : Word) (f : CallOn w) (g : CallOn x) → (recordBy f ≡ recordBy g) ↔ Joined w x

@@ -1,7 +1,7 @@
 -- The claims of specs/Exports.antt, proved: the numbers of an answer are read back as what it says. Assumes nothing.
 use mathlib.Core.Path.{ap, _∙_}
-use Rattle.thompson.specs.Codes.{outcomeOf, decisionIn, replyIn}
-use Rattle.thompson.proofs.Codes.{verdict-read, reply-read, node-end-read, comparison-read, live-read, entered-read}
+use Rattle.thompson.specs.Codes.{outcomeOf}
+use Rattle.thompson.proofs.Codes.{verdict-read, reply-read, node-end-read, live-read, comparison-exact, entered-exact}
 use Rattle.claims.specs.Exports.{ExportsAnswerAsCalls}
 
 pub exports-answer-as-calls : ExportsAnswerAsCalls
@@ -15,10 +15,12 @@ exports-answer-as-calls = record {
   record-to-label-length = λ s a h. (h .passed, h .meets, ap outcomeOf (h .numbers) ∙ reply-read (h .passed));
   record-to-word = λ s t t′ a h. (h .passed, h .meets, ap outcomeOf (h .numbers) ∙ reply-read (h .passed));
   same-element =
-      λ u v m m′ k k′ a h. (h .passed, h .meets, ap decisionIn (h .numbers) ∙ comparison-read (h .passed));
+      λ u v m m′ k k′ a h.
+      let exact = comparison-exact (h .passed) (h .numbers) in (h .passed, h .meets, exact .0, exact .1);
   text-to-record = λ t m m′ a h. (h .passed, h .meets, ap outcomeOf (h .numbers) ∙ reply-read (h .passed));
   record-to-text = λ s t t′ a h. (h .passed, h .meets, ap outcomeOf (h .numbers) ∙ reply-read (h .passed));
-  enter-word = λ u m m′ h s s′ a p. (p .passed, p .meets, ap replyIn (p .numbers) ∙ entered-read (p .passed));
+  enter-word = λ u m m′ h s s′ a p.
+      let exact = entered-exact (p .passed) (p .numbers) in (p .passed, p .meets, exact .0, exact .1);
   check-register = λ s a h. (h .passed, h .meets, ap outcomeOf (h .numbers) ∙ verdict-read (h .passed));
   live-entries = λ s h a p. (p .passed, p .meets, ap outcomeOf (p .numbers) ∙ live-read (p .passed));
   pack-shape = λ s xs ys xs′ ys′ a h. (h .passed, h .meets, ap outcomeOf (h .numbers) ∙ reply-read (h .passed));

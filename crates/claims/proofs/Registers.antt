@@ -1,10 +1,10 @@
 -- The claims of specs/Registers.antt on what is read, and on runs of filings; proofs/EnterCalls.antt has those on one
 -- filing. Assumes nothing.
-use mathlib.Core.Path.{sym, ap, _∙_}
+use mathlib.Core.Path.{_≡_, sym, ap, _∙_}
 use mathlib.Core.List.{List}
 use mathlib.Core.Logic.{_↔_}
 use Prim.Native.Nat.{ℕ}
-use Rattle.refusals.specs.Outcomes.{dropValue, verdictOf}
+use Rattle.refusals.specs.Outcomes.{accepted, dropValue, verdictOf}
 use Rattle.refusals.specs.declared.Verdict.{Verdict}
 use Rattle.refusals.proofs.Outcomes.{valued-accepted}
 use Rattle.registers.specs.Reading.{readRegister}
@@ -14,17 +14,16 @@ use Rattle.registers.proofs.Written.{register-written}
 use Rattle.registers.proofs.Finding.{find-number}
 use Rattle.updates.proofs.History.{history as run-history}
 use Rattle.updates.proofs.SameEntry.{same-entry as run-same-entry}
-use Rattle.claims.specs.Answers.{IsAccepted}
 use Rattle.claims.specs.Registers.{IsRegister, RegistersAreRead, History, SameEntry, Charges}
 use Rattle.claims.proofs.EnterCalls.{account-charged}
 
 -- The check accepts just the registers.
-check-accepts : (s : List ℕ) (v : Verdict) → RegisterChecked s v → IsAccepted (verdictOf v) ↔ IsRegister s
+check-accepts : (s : List ℕ) (v : Verdict) → RegisterChecked s v → (verdictOf v ≡ accepted 0) ↔ IsRegister s
 check-accepts s v h = (
   (λ a.
-      let x = valued-accepted (λ q. 0) (readRegister s) (a .0) (sym (h .result) ∙ a .1) in
+      let x = valued-accepted (λ q. 0) (readRegister s) 0 (sym (h .result) ∙ a) in
       (x .0, reads-well-formed s (x .0) (h .are-bytes) .0 (x .1))),
-  (λ q. (0, h .result ∙ ap (λ o. dropValue o) (reads-well-formed s (q .0) (h .are-bytes) .1 (q .1)))),
+  (λ q. h .result ∙ ap (λ o. dropValue o) (reads-well-formed s (q .0) (h .are-bytes) .1 (q .1))),
 )
 
 pub registers-are-read : RegistersAreRead

@@ -98,7 +98,7 @@ use Rattle.updates.specs.declared.Entered.{Entered}
 use Rattle.claims.specs.Refusals.{WordRefusal, NoWordRefusal, ShortTable, ShortBuffer}
 use Rattle.claims.specs.Refusals.{RecordRefusal, PairRefusal, SpellingRefusal}
 use Rattle.claims.specs.Refusals.{TextRefusal, NoTextRefusal, ShortTables, ShortRecord, PhraseRefusal}
-use Rattle.claims.specs.Answers.{Refuses, IsRefused, IsAccepted, RefusesWords, WordRefused, None}
+use Rattle.claims.specs.Answers.{Refuses, IsRefused, RefusesWords, WordRefused, None}
 use Rattle.claims.specs.Calls.{WordCall, TextCall, CallOn, recordBy, MemoryCall, writtenBy}
 use Rattle.claims.specs.Calls.{SpellingCall, spelledBy, PhraseCall, phrasedBy, PairCall}
 use Rattle.claims.specs.Calls.{LengthCall, LabelLengthCall, TwoWordCall, ExportedCall, exportedRecord}
@@ -128,7 +128,7 @@ pub record Demand1 : Type 0 where
       × (WordRefused (decisionOf r) → (m′ ≡ m) × (k′ ≡ k))
   pub accepted-word : (u : List ℕ) (m : Memory) → NoWordRefusal u m ↔ None (WordRefusal u m)
   pub accepted-record : (s : List ℕ) (r : Verdict) → Checked s r
-      → IsAccepted (verdictOf r) ↔ ((f : Form) × IsRecord s f)
+      → (verdictOf r ≡ accepted 0) ↔ ((f : Form) × IsRecord s f)
   pub text-to-record : (t : List ℕ) (m m′ : Memory) (r : Reply) → TextRecorded t m m′ r
       → Refuses (replyOf r) (TextRefusal t m) × (IsRefused (replyOf r) → m′ ≡ m)
   pub record-to-text : (s t t′ : List ℕ) (r : Reply) → TextWritten s t t′ r

@@ -4,6 +4,7 @@
 --     Passed code contract r   the contract of each export                                            thompson, Codes
 --     outcomeOf, decisionIn    what a caller reads in the numbers: 0 and a value, or number and place thompson, Codes
 --     replyIn, liveOf          the same in the four numbers of a filing; the live count of an account thompson, Codes
+--     codeOfDecision, codeOfReply   the numbers of a decision, of a filing's reply                   thompson, Codes
 --     the contracts, and replyOf, verdictOf, decisionOf, nodeEndOf            the glossary of Demands.antt
 -- Assumes nothing.
 use mathlib.Core.Path.{_≡_}
@@ -30,15 +31,16 @@ use Rattle.packed.specs.Contracts.{packing, unpacking, growing, Repacked, Answe
 use Rattle.packed.specs.declared.NodeEnd.{NodeEnd}
 use Rattle.registers.specs.Answers.{RegisterChecked}
 use Rattle.updates.specs.Accounts.{AccountRead}
-use Rattle.updates.specs.Entering.{enteredOf, repliedOf, EnteredWord}
+use Rattle.updates.specs.Entering.{repliedOf, EnteredWord}
 use Rattle.updates.specs.declared.AccountOf.{AccountOf}
 use Rattle.updates.specs.declared.Entered.{Entered}
 use Rattle.thompson.specs.Codes.{codeOf, codeOfDecision, outcomeOf, decisionIn, Passed}
-use Rattle.thompson.specs.Codes.{codeOfEntered, liveOf, replyIn}
+use Rattle.thompson.specs.Codes.{codeOfReply, liveOf, replyIn}
 use Rattle.thompson.specs.declared.Answer.{Answer}
 use Rattle.thompson.specs.declared.Filing.{Filing}
 
--- Each exported call answers as its call does.
+-- Each exported call answers as its call does. A decision and a filing's reply could be read in other numbers too; those
+-- answered are just the numbers of what is read in them.
 pub record ExportsAnswerAsCalls : Type 0 where
   pub word-to-record : (u : List ℕ) (m m′ : Memory) (a : Answer)
       → Passed (λ r. codeOf (replyOf r)) (Recorded u m m′) a
@@ -60,14 +62,15 @@ pub record ExportsAnswerAsCalls : Type 0 where
   pub same-element : (u v : List ℕ) (m m′ k k′ : Memory) (a : Answer)
       → Passed (λ r. codeOfDecision (decisionOf r)) (Compared u m m′ v k k′) a
       → (r : Comparison) × Compared u m m′ v k k′ r × (decisionIn a ≡ decisionOf r)
+      × (a ≡ codeOfDecision (decisionIn a))
   pub text-to-record : (t : List ℕ) (m m′ : Memory) (a : Answer)
       → Passed (λ r. codeOf (replyOf r)) (TextRecorded t m m′) a
       → (r : Reply) × TextRecorded t m m′ r × (outcomeOf a ≡ replyOf r)
   pub record-to-text : (s t t′ : List ℕ) (a : Answer) → Passed (λ r. codeOf (replyOf r)) (TextWritten s t t′) a
       → (r : Reply) × TextWritten s t t′ r × (outcomeOf a ≡ replyOf r)
   pub enter-word : (u : List ℕ) (m m′ : Memory) (h : ℕ) (s s′ : List ℕ) (a : Filing)
-      → Passed (λ r. codeOfEntered (enteredOf r)) (EnteredWord u m m′ h s s′) a
-      → (r : Entered) × EnteredWord u m m′ h s s′ r × (replyIn a ≡ repliedOf r)
+      → Passed (λ r. codeOfReply (repliedOf r)) (EnteredWord u m m′ h s s′) a
+      → (r : Entered) × EnteredWord u m m′ h s s′ r × (replyIn a ≡ repliedOf r) × (a ≡ codeOfReply (replyIn a))
   pub check-register : (s : List ℕ) (a : Answer) → Passed (λ r. codeOf (verdictOf r)) (RegisterChecked s) a
       → (r : Verdict) × RegisterChecked s r × (outcomeOf a ≡ verdictOf r)
   pub live-entries : (s : List ℕ) (h : ℕ) (a : Answer) → Passed (λ r. codeOf (liveOf r)) (AccountRead s h) a

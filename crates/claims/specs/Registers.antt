@@ -58,7 +58,6 @@ use Rattle.updates.specs.Accounts.{accountIn, raised}
 use Rattle.updates.specs.Entering.{Reply, newEntry, present, Answer, enteredOf, storedForm, withEntry, EnteredWord}
 use Rattle.updates.specs.History.{SameElement, Entering, Run, Fresh, HistoryOf, Meets}
 use Rattle.updates.specs.declared.Entered.{Entered}
-use Rattle.claims.specs.Answers.{IsAccepted}
 use Rattle.claims.specs.Refusals.{WordRefusal, NoWordRefusal}
 use Rattle.claims.specs.Given.{RecordOfWord}
 
@@ -77,7 +76,7 @@ pub record RegisterRefusal (s : List ℕ) (number place : ℕ) : Type 0 where
 pub record RegistersAreRead : Type 0 where
   pub read-just-when : (s : List ℕ) (v : Verdict) → RegisterChecked s v → (q : Register)
       → (readRegister s ≡ accepted q) ↔ WellFormed s q
-  pub accepted-just-when : (s : List ℕ) (v : Verdict) → RegisterChecked s v → IsAccepted (verdictOf v) ↔ IsRegister s
+  pub accepted-just-when : (s : List ℕ) (v : Verdict) → RegisterChecked s v → (verdictOf v ≡ accepted 0) ↔ IsRegister s
   pub found-there : (s : List ℕ) (v : Verdict) → RegisterChecked s v → (q : Register) → WellFormed s q → (f : Form)
       → found s (encode f) ≡ numberFor f (q .entries)
 

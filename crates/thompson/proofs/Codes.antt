@@ -1,6 +1,6 @@
 -- The numbers of an answer are read back as what the answer says, and a refusal of the first word has the paper's own
 -- number. Assumes nothing.
-use mathlib.Core.Path.{_≡_, refl, ap, ap₂}
+use mathlib.Core.Path.{_≡_, refl, sym, ap, ap₂, _∙_}
 use Prim.Native.Nat.{ℕ, zero, suc, _+_, _*_, _/_, _%_, _<_}
 use native.Mathlib.Omega.{arith}
 use lib.Dec.{lit<}
@@ -25,8 +25,10 @@ use Rattle.updates.specs.declared.AccountOf.{AccountOf}
 use Rattle.updates.specs.declared.AccountOf.the-variants as Accounts
 use Rattle.updates.specs.declared.Entered.{Entered}
 use Rattle.updates.specs.declared.Entered.the-variants as Answers
-use Rattle.updates.specs.Entering.{enteredOf, repliedOf}
-use Rattle.thompson.specs.Codes.{answer, codeOf, codeOfDecision, codeOfEntered, liveOf, readReply, replyIn}
+use Rattle.updates.specs.Entering.{repliedOf}
+use Rattle.thompson.specs.declared.Answer.{Answer}
+use Rattle.thompson.specs.declared.Filing.{Filing}
+use Rattle.thompson.specs.Codes.{answer, codeOf, codeOfDecision, codeOfReply, liveOf, readReply, replyIn}
 use Rattle.thompson.specs.Codes.{readOutcome, outcomeOf, readDecision, decisionIn}
 
 pub first-code : (r : Refusal) → codeOf (refusal r) ≡ codeOfDecision (decisionOf (First r))
@@ -82,7 +84,7 @@ pub node-end-read : (e : NodeEnd) → outcomeOf (codeOf (nodeEndOf e)) ≡ nodeE
 node-end-read (NodeEnds.Node n) = refl
 node-end-read (NodeEnds.Refused r) = refusal-read r
 
-pub comparison-read : (c : Comparison) → decisionIn (codeOfDecision (decisionOf c)) ≡ decisionOf c
+comparison-read : (c : Comparison) → decisionIn (codeOfDecision (decisionOf c)) ≡ decisionOf c
 comparison-read Same = refl
 comparison-read Inverse = refl
 comparison-read Different = refl
@@ -98,7 +100,17 @@ read-refused : (n place held : ℕ) → 0 < n → readReply n place held ≡ ref
 read-refused zero place held h = absurd (omega arith)
 read-refused (suc n) place held h = refl
 
-pub entered-read : (e : Entered) → replyIn (codeOfEntered (enteredOf e)) ≡ repliedOf e
+entered-read : (e : Entered) → replyIn (codeOfReply (repliedOf e)) ≡ repliedOf e
 entered-read (Answers.New k a) = refl
 entered-read (Answers.Present k a) = refl
 entered-read (Answers.Refused r) = read-refused (numberOf r) (placeOf r) 0 (number-some r .0)
+
+-- The numbers of a decision, and of a filing's reply, are just those of what is read in them.
+pub comparison-exact : {a : Answer} (c : Comparison) → a ≡ codeOfDecision (decisionOf c)
+    → (decisionIn a ≡ decisionOf c) × (a ≡ codeOfDecision (decisionIn a))
+comparison-exact c e =
+    let read = ap decisionIn e ∙ comparison-read c in (read, e ∙ ap codeOfDecision (sym read))
+
+pub entered-exact : {a : Filing} (e : Entered) → a ≡ codeOfReply (repliedOf e)
+    → (replyIn a ≡ repliedOf e) × (a ≡ codeOfReply (replyIn a))
+entered-exact e h = let read = ap replyIn h ∙ entered-read e in (read, h ∙ ap codeOfReply (sym read))

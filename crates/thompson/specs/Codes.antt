@@ -1,7 +1,7 @@
 -- Outcomes as two numbers, for C and Rust: a refusal's number and place, or 0 and the call's value; a filing has four.
 --     codeOf, codeOfDecision     the two numbers of an outcome, of a decision on two words
 --     outcomeOf, decisionIn      what a caller reads in the two numbers
---     codeOfEntered, replyIn     the four numbers of a filing, and what a caller reads in them
+--     codeOfReply, replyIn       the four numbers of a filing, and what a caller reads in them
 --     Passed code contract r     the contract of every exported call, over the contract of the call it passes on to
 -- Assumes nothing.
 use mathlib.Core.Path.{_≡_}
@@ -10,7 +10,7 @@ use Rattle.refusals.specs.Outcomes.{Outcome, accepted, refused, valued}
 use Rattle.comparisons.specs.Comparing.{Decision, same, inverse, different, refusedWord}
 use Rattle.updates.specs.declared.AccountOf.{AccountOf}
 use Rattle.updates.specs.Accounts.{accountOf}
-use Rattle.updates.specs.Entering.{Reply, newEntry, present, Answer as Entry, replyNumber}
+use Rattle.updates.specs.Entering.{Reply, newEntry, present, replyNumber}
 use Rattle.thompson.specs.declared.Answer.{Answer}
 use Rattle.thompson.specs.declared.Filing.{Filing}
 
@@ -63,9 +63,9 @@ presence (newEntry k) = 0
 presence (present k) = 1
 
 -- A refusal's number and place, or 0 and the entry's number with its presence; one word is filed, so its place is 0.
-abbrev pub codeOfEntered : Outcome Entry → Filing
-codeOfEntered (accepted x) = filing 0 (replyNumber (x .reply)) (presence (x .reply)) 0
-codeOfEntered (refused number place) = filing number place 0 0
+abbrev pub codeOfReply : Outcome Reply → Filing
+codeOfReply (accepted y) = filing 0 (replyNumber y) (presence y) 0
+codeOfReply (refused number place) = filing number place 0 0
 
 -- What a caller reads: 0 for a refusal is no refusal, and then 0 for presence is a new entry.
 abbrev pub readReply : (refusal value held : ℕ) → Outcome Reply

@@ -15,12 +15,12 @@ ghost use Rattle.spelling.specs.Contracts.{Spelled};
 ghost use Rattle.notation.specs.Contracts.{TextRecorded, TextWritten};
 ghost use Rattle.registers.specs.Answers.{RegisterChecked};
 ghost use Rattle.updates.specs.Accounts.{AccountRead};
-ghost use Rattle.updates.specs.Entering.{enteredOf, EnteredWord};
+ghost use Rattle.updates.specs.Entering.{repliedOf, EnteredWord};
 ghost use Rattle.trees.specs.Shapes.{subtreeEnd};
 ghost use Rattle.packed.specs.Packing.{caretsBefore};
 ghost use Rattle.packed.specs.Answers.{nodeEndOf};
 ghost use Rattle.packed.specs.Contracts.{packing, unpacking, growing, Repacked, AnswersNode};
-ghost use Rattle.thompson.specs.Codes.{codeOf, codeOfDecision, codeOfEntered, liveOf, Passed};
+ghost use Rattle.thompson.specs.Codes.{codeOf, codeOfDecision, codeOfReply, liveOf, Passed};
 use comparisons::Comparison;
 use packed::NodeEnd;
 use refusals::LeafNumber;
@@ -144,7 +144,7 @@ fn from_node_end(e: NodeEnd) -> Answer
 
 // The four numbers of a filing.
 fn from_entered(e: Entered) -> Filing
-    ensures { λ s. ⌜ s ≡ codeOfEntered (enteredOf e) ⌝ }
+    ensures { λ s. ⌜ s ≡ codeOfReply (repliedOf e) ⌝ }
 {
     match e {
         Entered::New(n, _) => Filing {
@@ -310,7 +310,7 @@ pub extern "C" fn thompson_enter_word(
     holder: u16,
     register: &mut [u8],
 ) -> Filing
-    ensures { λ r. ⌜ Passed (λ a. codeOfEntered (enteredOf a)) (EnteredWord (now (word .entry))
+    ensures { λ r. ⌜ Passed (λ a. codeOfReply (repliedOf a)) (EnteredWord (now (word .entry))
         (memory (now («b_table» .entry)) (now («a_table» .entry)) (now («record» .entry)))
         (memory (now («b_table» .exit)) (now («a_table» .exit)) (now («record» .exit)))
         holder (now (register .entry)) (now (register .exit))) r ⌝ }

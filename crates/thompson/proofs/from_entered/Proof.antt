@@ -2,8 +2,8 @@
 use mathlib.Core.Path.{sym, ap, ap₂, _∙_}
 use Prim.Native.Nat.{ℕ}
 use Rattle.updates.specs.declared.Entered.{Entered}
-use Rattle.updates.specs.Entering.{enteredOf}
-use Rattle.thompson.specs.Codes.{filing, codeOfEntered}
+use Rattle.updates.specs.Entering.{repliedOf}
+use Rattle.thompson.specs.Codes.{filing, codeOfReply}
 use borrow.Author.Needs.{needs}
 use Rattle.thompson.proofs.from_entered.Statement.{statement}
 use Rattle.thompson.proofs.from_entered.Tie as tie
@@ -33,16 +33,16 @@ place-requires : tie.Need-place-requires
 place-requires c κs = search needs
 
 returns : tie.Need-returns
-returns c = sym (ap (λ (x : Entered). codeOfEntered (enteredOf x)) (c .before .e .given .1))
+returns c = sym (ap (λ (x : Entered). codeOfReply (repliedOf x)) (c .before .e .given .1))
 
 returns-2 : tie.Need-returns-2
-returns-2 c = sym (ap (λ (x : Entered). codeOfEntered (enteredOf x)) (c .before .e2 .given .1))
+returns-2 c = sym (ap (λ (x : Entered). codeOfReply (repliedOf x)) (c .before .e2 .given .1))
 
 returns-3 : tie.Need-returns-3
 returns-3 c =
     let at-number = c .before in
     ap₂ (λ (n p : ℕ). filing n p 0 0) (at-number .number .ensures) (c .place .ensures)
-    ∙ sym (ap (λ (x : Entered). codeOfEntered (enteredOf x)) (at-number .before .before .e3 .given .1))
+    ∙ sym (ap (λ (x : Entered). codeOfReply (repliedOf x)) (at-number .before .before .e3 .given .1))
 
 pub from-entered-spec : {M : Type 1} → statement M
 from-entered-spec =
