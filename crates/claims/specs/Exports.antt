@@ -39,8 +39,8 @@ use Rattle.thompson.specs.Codes.{codeOfReply, liveOf, replyIn}
 use Rattle.thompson.specs.declared.Answer.{Answer}
 use Rattle.thompson.specs.declared.Filing.{Filing}
 
--- Each exported call answers as its call does. A decision and a filing's reply could be read in other numbers too; those
--- answered are just the numbers of what is read in them.
+-- Each exported call answers as its call does. A decision and a filing's reply could be read in other numbers too;
+-- those answered are just the numbers of what is read in them.
 pub record ExportsAnswerAsCalls : Type 0 where
   pub word-to-record : (u : List ℕ) (m m′ : Memory) (a : Answer)
       → Passed (λ r. codeOf (replyOf r)) (Recorded u m m′) a
