@@ -53,6 +53,9 @@
 extern "C" {
 #endif
 
+/* The version of the calls, the refusals and the formats. */
+#define THOMPSON_VERSION "0.7.0"
+
 /* The most letters of a word; also the highest index and the highest sum of exponents of a record, and the highest
    index and the highest sum of the sizes of exponents of a text. */
 #define THOMPSON_LIMIT 4096
@@ -109,6 +112,30 @@ enum {
     THOMPSON_NOT_TREE = 15         /* a shape that is no tree or has or would have more than THOMPSON_CARETS carets, a
                                       wrong or too short summary, or no such node or leaf; place 0 */
 };
+
+/* A refusal in words, which stand as long as the program runs. 0 is no refusal; a number with 256 added, as the second
+   word of thompson_same_element has it, is named as without. Any number may be asked for. */
+static inline const char *thompson_refusal_name(uint64_t number) {
+    switch (number > 256 ? number - 256 : number) {
+    case THOMPSON_ACCEPTED: return "no refusal";
+    case THOMPSON_TOO_MANY_LETTERS: return "more letters than the limit";
+    case THOMPSON_NOT_LETTER: return "a byte that is no letter";
+    case THOMPSON_BAD_FRAME: return "the two fields do not frame the record";
+    case THOMPSON_BAD_ENTRY: return "an entry that breaks a rule";
+    case THOMPSON_NOT_REDUCED: return "the form is not reduced";
+    case THOMPSON_SHORT_TABLE: return "a table that is too short";
+    case THOMPSON_SHORT_BUFFER: return "an output buffer that is too short";
+    case THOMPSON_LONG_SPELLING: return "a spelling with more letters than the limit";
+    case THOMPSON_MISSPELLED: return "a misspelled token, or an index above the limit";
+    case THOMPSON_LARGE_EXPONENTS: return "exponents whose sizes sum above the limit";
+    case THOMPSON_HIGH_INDEX: return "a reduced form with an index above the limit";
+    case THOMPSON_BAD_REGISTER: return "no well-formed register";
+    case THOMPSON_HOLDER_FULL: return "a holder with four entries";
+    case THOMPSON_REGISTER_FULL: return "an entry that does not fit the register";
+    case THOMPSON_NOT_TREE: return "no tree within the bound, or no such node or leaf";
+    default: return "unknown refusal";
+    }
+}
 
 /* The verdict on two words. */
 enum {

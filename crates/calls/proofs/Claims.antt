@@ -20,6 +20,7 @@ use Rattle.claims.proofs.EnterCalls as EnterCalls
 use Rattle.claims.proofs.PackedGiven as PackedGiven
 use Rattle.claims.proofs.Packed as Packed
 use Rattle.claims.proofs.Receipts as Receipts
+use Rattle.commands.proofs.LineParts as LineParts
 use Rattle.worked.proofs.Worked as Worked
 use Rattle.worked.proofs.Shapes as Shapes
 
@@ -111,6 +112,10 @@ claims = record {
   serves-met-lines = Receipts.serves-met-lines;
   cut-keeps-receipt = Receipts.cut-keeps-receipt;
   receipts-of-input = Receipts.receipts-of-input;
+  cut-keeps-item = LineParts.cut-keeps-item;
+  cut-keeps-two-words = LineParts.cut-keeps-two-words;
+  cut-keeps-record = LineParts.cut-keeps-record;
+  hex-in-parts = LineParts.hex-in-parts;
   worked = Worked.worked;
   worked-forms = Worked.worked-forms;
   worked-registers = Worked.worked-registers;

@@ -26,6 +26,7 @@ use Rattle.claims.specs.Registers.{RegistersAreRead, EntersWords, OnlyNewBytes,
 use Rattle.claims.specs.Registers.{History, SameEntry, Charges}
 use Rattle.claims.specs.Packed.{ShapesGiven, PackUnpack, PackedIsTree, GrownIsPacked, BothByShape}
 use Rattle.claims.specs.Receipts.{LinesOfBytes, LinesInParts, ServesMetLines, CutKeepsReceipt, ReceiptsOfInput}
+use Rattle.commands.specs.Parts.{CutKeepsItem, CutKeepsTwoWords, CutKeepsRecord, HexInParts}
 use Rattle.worked.specs.Worked.{Worked, WorkedForms, WorkedRegisters, WorkedVerdicts}
 use Rattle.worked.specs.Shapes.{WorkedShapes}
 
@@ -134,6 +135,11 @@ pub record Claims : Type 2 where
   pub serves-met-lines : ServesMetLines
   pub cut-keeps-receipt : CutKeepsReceipt
   pub receipts-of-input : ReceiptsOfInput
+  -- Lines of the command, kept in fixed memory: commands, Parts.
+  pub cut-keeps-item : CutKeepsItem
+  pub cut-keeps-two-words : CutKeepsTwoWords
+  pub cut-keeps-record : CutKeepsRecord
+  pub hex-in-parts : HexInParts
   -- Worked examples: worked, Worked and Shapes.
   pub worked : Worked
   pub worked-forms : WorkedForms

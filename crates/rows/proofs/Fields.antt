@@ -11,7 +11,7 @@ use Rattle.numerals.specs.Decimals.{decimal}
 use Rattle.numerals.proofs.Decimals.{decimal-length}
 use Rattle.printing.specs.inside.Printing.{Put}
 use Rattle.printing.proofs.Fitting.{put-behind}
-use Rattle.rows.specs.Text.{hexOf}
+use Rattle.appending.specs.Hexadecimal.{hexOf}
 use Rattle.rows.specs.inside.Steps.{numberThen, numberSize, fourNumbers, numbersSize, recordRow}
 
 -- A field with the byte behind it, then the rest.

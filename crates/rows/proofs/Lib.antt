@@ -1,7 +1,6 @@
 -- Laws of the receipt of a line, each file after those it cites.
 
--- text: hexadecimal digits, the fields of a row
-pub mod Hex
+-- the fields of a row
 pub mod Fields
 -- the receipt of a line: what the line is read as, the tables of a word, what the call leaves
 pub mod LineReads

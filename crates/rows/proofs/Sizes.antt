@@ -21,12 +21,12 @@ use Rattle.trees.specs.Pairs.{caretsOf}
 use Rattle.lengths.specs.Weights.{formLength}
 use Rattle.letters.specs.Judging.{judgedReading, lineRead}
 use Rattle.numerals.specs.Decimals.{ascii, decimal}
-use Rattle.rows.specs.Text.{hexOf}
+use Rattle.appending.specs.Hexadecimal.{hexOf}
 use Rattle.rows.specs.Receipts.{joinFields, formReceipt, refusalReceipt, receiptBy, receiptOf}
 use Rattle.rows.specs.Receipts.{receiptSize}
 use Rattle.rows.specs.inside.Steps.{refusalSize}
 use Rattle.numerals.proofs.Decimals.{decimal-length}
-use Rattle.rows.proofs.Hex.{hex-length}
+use Rattle.appending.proofs.Hex.{hex-length}
 use Rattle.rows.proofs.WordSizes.{length-most, carets-most}
 use Rattle.rows.proofs.LineReads.{read-long, read-short}
 

@@ -1,5 +1,4 @@
 -- The receipts of lines.
-pub mod Text
 pub mod Receipts
 -- what no claim reaches
 pub mod inside

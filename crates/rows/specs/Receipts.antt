@@ -15,7 +15,7 @@ use Rattle.trees.specs.Pairs.{caretsOf}
 use Rattle.lengths.specs.Weights.{formLength}
 use Rattle.letters.specs.Judging.{lineRead}
 use Rattle.numerals.specs.Decimals.{ascii, decimal}
-use Rattle.rows.specs.Text.{hexOf}
+use Rattle.appending.specs.Hexadecimal.{hexOf}
 
 -- One space parts the fields of a line, and byte 0A hex ends it.
 abbrev pub joinFields : List (List ℕ) → List ℕ

@@ -48,7 +48,7 @@ fn put_record(k: u64, l: u64, m: u64, n: u64, record: &[u8], out: &mut [u8], at:
     ensures { λ r. ⌜ Wrote (recordRow k l m n (now («record» .entry))) (now (out .entry)) at (now (out .exit)) r ⌝ }
 {
     let behind_numbers = put_numbers(k, l, m, n, out, at);
-    let behind_record = text::put_hex(record, out, behind_numbers);
+    let behind_record = appending::append_hex(record, out, behind_numbers);
     printing::put(b"\n", out, behind_record)
 }
 

@@ -5,7 +5,7 @@ use Rattle.refusals.specs.Outcomes.{Outcome, accepted, refused}
 use Rattle.trees.specs.inside.Writing.{tableCarets}
 use Rattle.lengths.specs.inside.Contracts.{tableLength}
 use Rattle.numerals.specs.Decimals.{decimal}
-use Rattle.rows.specs.Text.{hexOf}
+use Rattle.appending.specs.Hexadecimal.{hexOf}
 use Rattle.rows.specs.Receipts.{joinFields}
 
 -- The value of an outcome; 0 where there is none.

@@ -3,7 +3,7 @@ use native.Mathlib.Omega.{arith}
 use borrow.Author.Needs.{needs}
 use Rattle.lists.proofs.Writes.{write-then, wrote-same}
 use Rattle.printing.proofs.Fitting.{put-behind}
-use Rattle.rows.proofs.Hex.{hex-length}
+use Rattle.appending.proofs.Hex.{hex-length}
 use Rattle.rows.proofs.Fields.{numbers-end, record-row}
 use Rattle.rows.proofs.row.put_record.Statement.{statement}
 use Rattle.rows.proofs.row.put_record.Tie as tie
@@ -11,18 +11,8 @@ use Rattle.rows.proofs.row.put_record.Tie as tie
 put-numbers-requires : tie.Need-put-numbers-requires
 put-numbers-requires c κs = search needs
 
-put-hex-requires : tie.Need-put-hex-requires
-put-hex-requires c κs =
-    let first = c .before .before .before in
-    let entry = first .before .before .before .before in
-    let x = entry .args in
-    omega (
-      arith,
-      entry .pre,
-      first .put-numbers .kept,
-      numbers-end (x .k) (x .l) (x .m) (x .n) (omega arith) (omega arith) (omega arith) (omega arith)
-          (first .put-numbers .ensures),
-    )
+append-hex-requires : tie.Need-append-hex-requires
+append-hex-requires c κs = search needs
 
 slice-aggregate-put : tie.Need-slice-aggregate-put
 slice-aggregate-put c = search needs
@@ -42,17 +32,19 @@ returns c =
     let x = entry .args in
     let numbers = first .put-numbers .ensures in
     let end = numbers-end (x .k) (x .l) (x .m) (x .n) (omega arith) (omega arith) (omega arith) (omega arith) numbers in
+    let digits = hex .append-hex .ensures .fits
+    (omega (arith, entry .pre, first .put-numbers .kept, end, hex-length (x .«record» .now))) in
     let last = put-behind (omega (arith, entry .pre, first .put-numbers .kept, end, hex-length (x .«record» .now)))
-    (hex .put-hex .ensures) (put .put .ensures) in
+    digits (put .put .ensures) in
     wrote-same (record-row (x .k) (x .l) (x .m) (x .n) (x .«record» .now))
-    (write-then numbers (write-then (hex .put-hex .ensures) last))
+    (write-then numbers (write-then digits last))
 
 pub put-record-spec : {M : Type 1} → statement M
 put-record-spec =
     tie.close
     (tie.spec
     put-numbers-requires
-    put-hex-requires
+    append-hex-requires
     slice-aggregate-put
     put-requires
     same-length

@@ -1,0 +1,4 @@
+-- Bytes in hexadecimal digits, and text appended to a buffer.
+pub mod Hexadecimal
+-- what no claim reaches
+pub mod inside

@@ -1,0 +1,3 @@
+-- The steps of the functions.
+-- Inside: no claim reaches these definitions; a reader of the claims need not believe them.
+pub mod Steps

@@ -1,0 +1,2 @@
+-- Laws of pictures of records.
+pub mod PairPictures

@@ -1,0 +1,4 @@
+-- Pictures of records.
+pub mod Pictures
+-- what no claim reaches
+pub mod inside
