@@ -6,6 +6,7 @@ use cases::fields;
 use cases::parts;
 use libc::STDIN_FILENO;
 
+mod drawn;
 mod records;
 mod words;
 

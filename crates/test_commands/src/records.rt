@@ -9,7 +9,7 @@ use commands::reading;
 use hexadecimal::NONE;
 
 // The most bytes of a record.
-const RECORD: usize = 256;
+pub const RECORD: usize = 256;
 
 // The question of a word.
 fn question(word: &[u8]) -> Question {

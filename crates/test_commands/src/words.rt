@@ -1,4 +1,5 @@
 // Words, alone and two of them.
+use crate::drawn;
 use crate::records;
 use cases::counts::print_text;
 use cases::fields;
@@ -77,6 +78,10 @@ pub fn print(word: &[u8], argument: &[u8]) {
         print_line(argument);
     } else if check::same(word, b"two") {
         print_two(fields::field(argument, 0), fields::field(argument, 1));
+    } else if check::same(word, b"draw") {
+        drawn::print(false, argument);
+    } else if check::same(word, b"draw-text") {
+        drawn::print(true, argument);
     } else {
         records::print(word, argument);
     }
