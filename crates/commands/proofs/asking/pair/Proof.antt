@@ -35,7 +35,8 @@ refuse-requires c κs = search needs
 
 returns : tie.Need-returns
 returns c =
-    let told = c .before .before .before .before .before .before .before in
+    let lent = c .before .before .before .before in
+    let told = lent .before .before .before in
     let paired = told .before .before in
     says-same
     (pair-said (paired .record-to-tree-pair .ensures) _ (told .reply .given .1) (search needs) (search needs))
