@@ -1,5 +1,7 @@
 // Text appended to a buffer, piece by piece. Each function answers the place behind what it appended; where that does
 // not fit it answers BEYOND, and so does every one behind it, so that a text needs no count of its bytes beforehand.
+#![tactic(auto)]
+
 ghost use Rattle.std.specs.Prelude.{[], ◌∷◌, ◌<◌, ◌≡◌};
 ghost use Rattle.io.specs.Digits.{hex_digit_ascii};
 ghost use Rattle.numerals.specs.Decimals.{decimal};

@@ -1,4 +1,6 @@
 // Nodes of shapes in rows of numbers, 64 to a number, the first node in the lowest bit.
+#![tactic(auto)]
+
 ghost use Rattle.std.specs.Prelude.{◌≡◌, ◌%◌, ◌≤◌, ◌<◌, ◌^◌};
 ghost use Rattle.std.specs.Int.Count.{ones};
 ghost use Rattle.bitrows.specs.inside.Growth.{opened_number, carried_number, FoundLeaf};

@@ -1,4 +1,6 @@
 // The reduced form's clause, tested on two tables of exponents (01, 'The reduced form'), and tables handed over.
+#![tactic(auto)]
+
 ghost use Rattle.clause.specs.inside.Tables.{BreakFound, HandedOver};
 
 use refusals::{LIMIT, Refusal, Verdict};

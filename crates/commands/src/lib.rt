@@ -1,5 +1,7 @@
 // The answers of the command line: for a line, a word, a text or a record, a line of text at the front of a buffer. The
 // program `thompsonf` reads, calls and writes.
+#![tactic(auto)]
+
 ghost use Rattle.commands.specs.Answers.{fitted};
 ghost use Rattle.commands.specs.Records.{record_said};
 ghost use Rattle.commands.specs.Promises.{Says};

@@ -1,5 +1,7 @@
 // Two words: same, inverse or different by their records. Both are judged before anything is written, and nothing that
 // was lent is touched on a refusal.
+#![tactic(auto)]
+
 ghost use Rattle.refusals.specs.Memory.{memory};
 ghost use Rattle.comparisons.specs.Comparing.{Compared};
 

@@ -1,6 +1,8 @@
 // The command `thompsonf`: it reads arguments and input, calls and writes; the crate `commands` has the answers. It
 // answers a status: 0 where all was accepted, 1 where something was refused, 2 for a wrong call, or where the input
 // cannot be read or the output cannot be written.
+#![tactic(auto)]
+
 use commands::Question;
 
 mod arguments;

@@ -1,4 +1,6 @@
 // The front of a table, copied into another.
+#![tactic(auto)]
+
 ghost use Rattle.copying.specs.inside.Copying.{Copied};
 
 // The first n entries of one table, at the front of another; nothing where either has fewer.

@@ -1,5 +1,7 @@
 // The picture of a record's tree pair. A picture has a buffer of its own; what is said in place of one stands in that
 // of an answer.
+#![tactic(auto)]
+
 ghost use Rattle.std.specs.Prelude.{◌≡◌, ◌≤◌};
 ghost use Rattle.trees.specs.Trees.{Tree, carets};
 ghost use Rattle.trees.specs.Shapes.{shape};

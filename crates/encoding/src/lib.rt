@@ -1,4 +1,6 @@
 // Records written from two tables of exponents.
+#![tactic(auto)]
+
 ghost use Rattle.std.specs.Prelude.{◌≡◌};
 ghost use Rattle.encoding.specs.inside.Contracts.{bytes_written_value, Encoded};
 

@@ -1,4 +1,6 @@
 // Tagged fields: one read at a place of bytes, one written at the front of a buffer (01, 'The record').
+#![tactic(auto)]
+
 ghost use Rattle.std.specs.Prelude.{◌≡◌, ◌∷◌, ◌+◌, ◌*◌, ◌≤◌, length};
 ghost use Rattle.lists.specs.inside.Writes.{Wrote};
 ghost use Rattle.refusals.specs.Placing.{Placed};

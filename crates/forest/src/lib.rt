@@ -1,4 +1,6 @@
 // The forest engine: the reduced form of a word, one letter in constant time, and of a product of powers.
+#![tactic(auto)]
+
 ghost use Rattle.std.specs.Prelude.{◌≡◌};
 ghost use Rattle.forest.specs.inside.Filling.{last_tip_value, fits_for, FilledTables};
 ghost use Rattle.forest.specs.inside.FillingPowers.{FilledPowers};

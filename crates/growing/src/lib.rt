@@ -1,4 +1,6 @@
 // A caret grown in a packed shape.
+#![tactic(auto)]
+
 ghost use Rattle.packed.specs.Promises.{growing, Repacked};
 
 use packed::checking::{check, numbers_of};

@@ -1,5 +1,7 @@
 // Hexadecimal read into bytes, from characters that come in parts: two digits a byte, upper or lower case, blanks
 // between bytes. The bytes are kept in a buffer, as many as there is room for.
+#![tactic(auto)]
+
 ghost use Rattle.std.specs.Prelude.{◌≡◌, ◌<◌};
 ghost use Rattle.lines.specs.Feeding.{kept_line, kept_count};
 ghost use Rattle.hexadecimal.specs.Hexadecimal.{hex_value, is_blank_value};

@@ -1,4 +1,6 @@
 // The length of a form: Fordham's sum over the carets of its smallest tree pair.
+#![tactic(auto)]
+
 ghost use Rattle.std.specs.Prelude.{◌≡◌, length};
 ghost use Rattle.trees.specs.Pairs.{max_carets};
 ghost use Rattle.trees.specs.Shapes.{shape_size};

@@ -1,4 +1,6 @@
 // Words judged: which bytes are letters, and whether the tables lent with a word are long enough.
+#![tactic(auto)]
+
 ghost use Rattle.std.specs.Prelude.{◌≡◌};
 ghost use Rattle.refusals.specs.Outcomes.{verdict_of, drop_value};
 ghost use Rattle.letters.specs.Judging.{judged};

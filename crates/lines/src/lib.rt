@@ -1,5 +1,7 @@
 // The lines of bytes: where a line ends, how many lines and bytes there are, and the lines of an input that comes in
 // parts, whose bytes are kept in a buffer, as many as there is room for.
+#![tactic(auto)]
+
 ghost use Rattle.std.specs.Prelude.{◌≡◌, length, drop};
 ghost use Rattle.lines.specs.Lines.{lines_of, line_bytes};
 ghost use Rattle.lines.specs.LineEnds.{line_end_value};

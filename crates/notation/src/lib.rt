@@ -1,4 +1,6 @@
 // Subscript notation: read into a record, and written from one.
+#![tactic(auto)]
+
 ghost use Rattle.refusals.specs.Memory.{memory};
 ghost use Rattle.notation.specs.Promises.{TextRecorded, TextWritten};
 

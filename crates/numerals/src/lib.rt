@@ -1,1 +1,3 @@
 // Decimal numerals, in specs/ and proofs/. No running code.
+#![tactic(auto)]
+

@@ -1,4 +1,6 @@
 // Shapes packed 64 nodes to a number, with a summary of the carets before each number.
+#![tactic(auto)]
+
 ghost use Rattle.refusals.specs.Outcomes.{reply_of};
 ghost use Rattle.refusals.specs.Placing.{Placed};
 ghost use Rattle.trees.specs.Shapes.{subtree_end_value};

@@ -1,4 +1,6 @@
 // The tree pair of a record, and its length: by Fordham's weights, and by Table 1 of 001.
+#![tactic(auto)]
+
 ghost use Rattle.std.specs.Prelude.{◌≡◌};
 ghost use Rattle.lengths.specs.Weights.{form_length};
 ghost use Rattle.pairs.specs.Promises.{Paired, label_sum, Measured};

@@ -1,4 +1,6 @@
 // Pictures of tree pairs: as an SVG text, and in characters.
+#![tactic(auto)]
+
 ghost use Rattle.std.specs.Prelude.{◌≡◌, ◌≤◌};
 ghost use Rattle.appending.specs.inside.Appending.{Appended};
 ghost use Rattle.trees.specs.Trees.{Tree, carets};

@@ -1,5 +1,7 @@
 // Bytes and decimal numbers at a place of a buffer. Each function answers the place behind what it put; where that does
 // not fit, it writes nothing and answers the place itself.
+#![tactic(auto)]
+
 ghost use Rattle.numerals.specs.Decimals.{decimal};
 ghost use Rattle.printing.specs.inside.Printing.{Put};
 

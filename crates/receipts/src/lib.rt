@@ -1,5 +1,7 @@
 // The receipts of an input that comes in parts: a header, then a line for each line of the input. A program reads a
 // part, calls, and writes what stands at the front of the output buffer.
+#![tactic(auto)]
+
 ghost use Rattle.std.specs.Prelude.{◌≡◌, ◌+◌, ◌≤◌, not, length, take, nat_lt};
 ghost use Rattle.lists.specs.inside.Writes.{Wrote};
 ghost use Rattle.rows.specs.Receipts.{receipt_of, receipt_size};

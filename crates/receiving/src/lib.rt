@@ -1,6 +1,8 @@
 // Standard input, a word a line, to receipts on standard output: it reads, calls and writes; the crate `receipts` has
 // the rest. It answers a status: 0 where every word was accepted, 1 where one was refused, 2 where the input cannot be
 // read or the output cannot be written.
+#![tactic(auto)]
+
 use libc::{STDERR_FILENO, STDIN_FILENO, STDOUT_FILENO};
 use receipts::{LINE, OUTPUT, PART, Served, Serving};
 use refusals::Reply;

@@ -1,4 +1,6 @@
 // Records: checked, read into two tables of exponents, and exchanged.
+#![tactic(auto)]
+
 ghost use Rattle.std.specs.Prelude.{◌≡◌};
 ghost use Rattle.refusals.specs.Placing.{Placed};
 ghost use Rattle.records.specs.Checking.{Checked};

@@ -1,4 +1,6 @@
 // The refusals of the calls, with the number and the place of each; the limit; the four kinds of counts.
+#![tactic(auto)]
+
 ghost use Rattle.std.specs.Prelude.{◌≡◌};
 ghost use Rattle.group.specs.Limits.{limit as theLimit};
 ghost use Rattle.refusals.specs.Refusals.{number_of, place_of};

@@ -1,5 +1,7 @@
 // The register program: a register of first filings kept in a file. It reads, calls and writes; the crates `registers`
 // and `updates` have the rest. What was asked for goes to standard output, what went wrong to standard error.
+#![tactic(auto)]
+
 mod answers;
 mod command;
 mod entering;

@@ -1,4 +1,6 @@
 // The register of first filings: checked, summed up and searched (02, [3]). Nothing is written.
+#![tactic(auto)]
+
 ghost use Rattle.std.specs.Prelude.{◌≡◌};
 ghost use Rattle.registers.specs.Finding.{found};
 ghost use Rattle.registers.specs.Answers.{RegisterChecked, Summarised, search_of, heading_at};

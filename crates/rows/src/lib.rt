@@ -1,4 +1,6 @@
 // A row of the receipts: the receipt of a line.
+#![tactic(auto)]
+
 ghost use Rattle.std.specs.Prelude.{◌≡◌, not, length, ltb};
 ghost use Rattle.refusals.specs.Placing.{fitting, Placed};
 ghost use Rattle.rows.specs.Receipts.{receipt_of, receipt_size};

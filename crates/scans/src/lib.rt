@@ -1,4 +1,6 @@
 // The length by Table 1 of 001: one pass over the exponents of two trees, with two counters for each.
+#![tactic(auto)]
+
 ghost use Rattle.std.specs.Prelude.{◌≡◌};
 ghost use Rattle.lengths.specs.inside.Contracts.{length_of, table_length};
 

@@ -1,4 +1,6 @@
 // The spelling of a record's form.
+#![tactic(auto)]
+
 ghost use Rattle.spelling.specs.Promises.{Spelled};
 
 use refusals::{LIMIT, Refusal, Reply, Verdict};

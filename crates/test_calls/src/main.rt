@@ -2,6 +2,8 @@
 // given, how much of two tables and of a buffer it is lent, the same of a second word, and behind a bar a name; what a
 // call does not use may be left out. Each line is printed, and below it the answer; a heading, `# ..`, has none. The
 // file `stdout` has what is expected.
+#![tactic(auto)]
+
 use cases::{counts, fields, parts};
 use libc::STDIN_FILENO;
 use receipts::OUTPUT;

@@ -1,6 +1,8 @@
 // The answers of the command line, tried on the lines of standard input. A line has a word of the command and, behind a
 // blank, its argument; for `same` a line of two words, for `two` the same words apart. Each line is printed with the
 // answer behind a colon; a line that begins with `#` is a heading. An answer may have more than one line.
+#![tactic(auto)]
+
 use cases::counts::print_text;
 use cases::{fields, parts};
 use libc::STDIN_FILENO;

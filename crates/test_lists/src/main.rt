@@ -2,6 +2,8 @@
 // the output that are lent, and behind an arrow `ok`, the bytes and both tables, or `refused`, number and place: `list`
 // is an example vector, `trap` a row with a name behind a bar. Accepted lists are also done word by word. Each row that
 // fails is printed, then how many are right.
+#![tactic(auto)]
+
 use cases::counts::Counts;
 use cases::{counts, fields, parts};
 use libc::STDIN_FILENO;

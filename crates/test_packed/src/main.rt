@@ -2,6 +2,8 @@
 // it is lent, and behind an arrow `ok` with what it answers and leaves, or `refused`, number and place. A row that is
 // no example vector begins with `trap` and ends with a name behind a bar. Then come the largest shapes, which the
 // program makes itself. Each row that fails is printed, then how many are right.
+#![tactic(auto)]
+
 use cases::counts::Counts;
 use cases::{counts, fields, parts};
 use libc::STDIN_FILENO;

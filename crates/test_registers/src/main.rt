@@ -2,6 +2,8 @@
 // and of the record buffer, the holder and the register, and behind an arrow the answer, the record and the register as
 // they must be then: `file` is a seeded case, `trap` one with a name behind a bar. `long`, `odd` and `run` have other
 // forms. Each case that fails is printed, then how many are right.
+#![tactic(auto)]
+
 use cases::counts::Counts;
 use cases::{counts, fields, parts};
 use libc::STDIN_FILENO;

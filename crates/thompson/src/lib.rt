@@ -1,6 +1,8 @@
 // The calls for C and Rust. Each passes on to the proved call and answers two numbers: the refusal's number and place,
 // or 0 and the call's value. In the two-word call 256 is added to the number where the second word is refused. A filing
 // answers two numbers more.
+#![tactic(auto)]
+
 ghost use Rattle.std.specs.Prelude.{◌≡◌};
 ghost use Rattle.refusals.specs.Outcomes.{verdict_of, reply_of};
 ghost use Rattle.refusals.specs.Memory.{memory};

@@ -1,4 +1,6 @@
 // Texts in subscript notation, read into arrays of powers.
+#![tactic(auto)]
+
 ghost use Rattle.tokens.specs.inside.Arrays.{TokensRead};
 
 use crate::token::Token;

@@ -1,4 +1,6 @@
 // Tree pairs of forms.
+#![tactic(auto)]
+
 ghost use Rattle.std.specs.Prelude.{◌≡◌};
 ghost use Rattle.trees.specs.inside.Writing.{pairing_of, table_carets, WrotePair};
 

@@ -1,5 +1,7 @@
 // A word entered into a register of first filings, in which an element and its inverse share an entry, and a holder's
 // account (02, [3] and [7]). All is judged first, in arrays of the call's own, and what was lent is written last.
+#![tactic(auto)]
+
 ghost use Rattle.refusals.specs.Memory.{memory};
 ghost use Rattle.updates.specs.Accounts.{AccountRead};
 ghost use Rattle.updates.specs.Entering.{EnteredWord};

@@ -1,5 +1,7 @@
 // Many words in one call (02, [4]): the records of the lines of a list, one behind another, and for a refused word its
 // number and place.
+#![tactic(auto)]
+
 ghost use Rattle.std.specs.Prelude.{◌≡◌, ltb};
 ghost use Rattle.lines.specs.Lines.{lines_of};
 ghost use Rattle.refusals.specs.Outcomes.{verdict_of, drop_value};

@@ -1,4 +1,6 @@
 // Word to record, also with scratch that is lent: judged first, and nothing that was lent is touched on a refusal.
+#![tactic(auto)]
+
 ghost use Rattle.std.specs.Prelude.{◌≡◌};
 ghost use Rattle.refusals.specs.Outcomes.{verdict_of, drop_value};
 ghost use Rattle.refusals.specs.Memory.{memory};
