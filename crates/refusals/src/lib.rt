@@ -10,23 +10,23 @@ ghost use Rattle.refusals.specs.inside.Verdicts.{refusal_in, count_in};
 pub const LIMIT: usize = 4096;
 
 // k of a generator x_k.
-#[derive(Drop)]
+#[derive(Clone, Copy)]
 pub struct GeneratorIndex(pub u16);
 
 // The number of a leaf of a tree, from the left.
-#[derive(Drop)]
+#[derive(Clone, Copy)]
 pub struct LeafNumber(pub u16);
 
 // The number of a caret of a tree: caret k stands between the leaves k and k + 1.
-#[derive(Drop)]
+#[derive(Clone, Copy)]
 pub struct CaretNumber(pub u16);
 
 // The number of a node of a shape, counted from 0 in the order in which the shape is written.
-#[derive(Drop)]
+#[derive(Clone, Copy)]
 pub struct NodeNumber(pub usize);
 
 // Why a call refuses what it was given.
-#[derive(Drop)]
+#[derive(Clone, Copy)]
 pub enum Refusal {
     // More letters than the limit.
     TooManyLetters,
@@ -61,14 +61,14 @@ pub enum Refusal {
 }
 
 // Accepted or refused: the answer of calls that write nothing.
-#[derive(Drop)]
+#[derive(Clone, Copy)]
 pub enum Verdict {
     Accepted,
     Refused(Refusal),
 }
 
 // A number, as of bytes written, of letters or of carets, or a refusal: the answer of all other calls.
-#[derive(Drop)]
+#[derive(Clone, Copy)]
 pub enum Reply {
     Number(usize),
     Refused(Refusal),
