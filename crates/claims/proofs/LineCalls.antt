@@ -26,7 +26,7 @@ use Rattle.words.specs.Recording.{judged_with, encode_word, count_record, buffer
 use Rattle.wordlists.specs.Items.{item, items, tables_then}
 use Rattle.wordlists.proofs.Lines.{judged_line, read_refused}
 use Rattle.wordlists.proofs.Sizes.{item_size_lem}
-use Rattle.wordlists.proofs.Tables.{line_table_length}
+use Rattle.wordlists.proofs.Tables.{line_table-length}
 use Rattle.claims.specs.Refusals.{WordRefusal, long, unlettered, short_table, short_buffer}
 use Rattle.claims.specs.Lists.{LineCall, lines_called, bytes_of_answer, gave, bytes_given, CallsFrom}
 use Rattle.claims.proofs.Refusals.{Judged, refuses, accepts, judge_word}
@@ -86,8 +86,8 @@ calls_ran (c ∷ cs) b a b' a' b_long a_long (eb, ea, from) =
     let a-then = a_left c bl al ∙ ap (λ (t : List ℕ). table_after a_side (line_read c.line) t) ea in
     let rest =
     calls_ran cs c.left.b c.left.a b' a'
-    (omega (arith, b_long, ap length b_then, line_table_length b_side c.line b b_long))
-    (omega (arith, a_long, ap length a-then, line_table_length a_side c.line a a_long))
+    (omega (arith, b_long, ap length b_then, line_table-length b_side c.line b b_long))
+    (omega (arith, a_long, ap length a-then, line_table-length a_side c.line a a_long))
     from in
     record {
       b_table = rest.b_table ∙ ap (λ (t : List ℕ). tables_then b_side (lines_called cs) t) b_then;

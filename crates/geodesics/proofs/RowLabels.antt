@@ -23,9 +23,9 @@ row_no_left (suc n) zero es = row_no_left n (first es) (rest es)
 row_no_left (suc n) (suc s) es =
     no_left_inside (first es) (row_classes n (row (first es + s) 0 (rest es))) (row_no_left n (first es + s) (rest es))
 
-left_first_inside : (e : ℕ) (cs : List Class) → LeftFirst cs → LeftFirst (inside_by e ∷ cs)
-left_first_inside zero cs h = h
-left_first_inside (suc e) cs h = h
+left_first-inside : (e : ℕ) (cs : List Class) → LeftFirst cs → LeftFirst (inside_by e ∷ cs)
+left_first-inside zero cs h = h
+left_first-inside (suc e) cs h = h
 
 -- In every row the left side comes first.
 pub row_left_first : (n s l : ℕ) (es : List ℕ) → LeftFirst (row_classes n (row s l es))
@@ -33,7 +33,7 @@ row_left_first zero s l es = tt
 row_left_first (suc n) zero zero es = row_no_left n (first es) (rest es)
 row_left_first (suc n) zero (suc l) es = row_left_first n (first es) l (rest es)
 row_left_first (suc n) (suc s) l es =
-    left_first_inside (first es) (row_classes n (row (first es + s) l (rest es)))
+    left_first-inside (first es) (row_classes n (row (first es + s) l (rest es)))
     (row_left_first n (first es + s) l (rest es))
 
 -- The labels of the classes are those of the row.

@@ -40,11 +40,11 @@ no_left_first (on_right ∷ cs) h = h
 no_left_first (inside_leaf ∷ cs) h = no_left_first cs h
 no_left_first (inside_caret ∷ cs) h = no_left_first cs h
 
-left_first_behind : (c : Class) (cs : List Class) → LeftFirst (c ∷ cs) → LeftFirst cs
-left_first_behind on_left cs h = h
-left_first_behind on_right cs h = no_left_first cs h
-left_first_behind inside_leaf cs h = h
-left_first_behind inside_caret cs h = h
+left_first-behind : (c : Class) (cs : List Class) → LeftFirst (c ∷ cs) → LeftFirst cs
+left_first-behind on_left cs h = h
+left_first-behind on_right cs h = no_left_first cs h
+left_first-behind inside_leaf cs h = h
+left_first-behind inside_caret cs h = h
 
 -- The labels of carets behind caret 0, and the sum of two such lists.
 abbrev pub later_labels : List Class → List Label
@@ -72,8 +72,8 @@ some_inside_weighs (on_right ∷ cs) (d ∷ ds) e h =
     )
 
 -- Or some of the second list.
-some_inside_below : (cs ds : List Class) → length cs ≡ length ds → some_inside_value ds ≡ true → 1 ≤ later_sum cs ds
-some_inside_below cs ds e h =
+some_inside-below : (cs ds : List Class) → length cs ≡ length ds → some_inside_value ds ≡ true → 1 ≤ later_sum cs ds
+some_inside-below cs ds e h =
     rw (columns_symmetric (later_labels cs) (later_labels ds)) (some_inside_weighs ds cs (sym e) h)
 
 none_next : (cs : List Class) → some_inside_value cs ≡ false → next_inside cs ≡ false
@@ -164,7 +164,7 @@ agree inside_caret on_right cs ds e oc od =
     (right_caret (next_inside ds) (some_inside_value ds) (later_sum cs ds))
 agree on_right on_right cs ds e oc od =
     right_right (next_inside cs) (some_inside_value cs) (next_inside ds) (some_inside_value ds) (later_sum cs ds)
-    (some_inside_weighs cs ds e) (some_inside_below cs ds e) (all_right cs ds oc od)
+    (some_inside_weighs cs ds e) (some_inside-below cs ds e) (all_right cs ds oc od)
 
 -- Fordham's sum is that of Table 1.
 pub two_tables : (cs ds : List Class) → length cs ≡ length ds → LeftFirst cs → LeftFirst ds
@@ -172,5 +172,5 @@ pub two_tables : (cs ds : List Class) → length cs ≡ length ds → LeftFirst 
 two_tables [] ds e oc od = refl
 two_tables (c ∷ cs) [] e oc od = refl
 two_tables (c ∷ cs) (d ∷ ds) e oc od =
-    rw (two_tables cs ds (omega arith) (left_first_behind c cs oc) (left_first_behind d ds od))
+    rw (two_tables cs ds (omega arith) (left_first-behind c cs oc) (left_first-behind d ds od))
     (agree c d cs ds (omega arith) oc od)

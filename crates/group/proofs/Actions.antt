@@ -4,7 +4,7 @@ use mathlib.Core.List.{[], ◌∷◌, ◌++◌, append-nil}
 use Prim.Native.Nat.{ℕ, zero, suc}
 use lib.ListN.{replicate}
 use Rattle.group.specs.Letters.{Letter, 'a, 'A, 'b, 'B, Word, inverse}
-use Rattle.group.specs.Chains.{relator1, relator2, Eight, pair_a_a, pair_Aa, pair_b_b, pair_Bb, first, second}
+use Rattle.group.specs.Chains.{relator1, relator2, Eight, pair_aA, pair_Aa, pair_bB, pair_Bb, first, second}
 use Rattle.group.specs.Chains.{first_inverse, second_inverse}
 use Rattle.group.specs.Forms.{Form, empty, level, letters}
 use Rattle.group.proofs.Congruence.{◌≈◌, ≈_refl, ≈_sym, ≈_trans, ≈_cons, ≈_drop}
@@ -46,9 +46,9 @@ act_inverse : (r : Word) → ((p : Inner) → act r p ≡ p) → (p : Inner) →
 act_inverse r h p = sym (h (act (inverse r) p)) ∙ act_undo r p
 
 act_eight : {r : Word} → Eight r → (p : Inner) → act r p ≡ p
-act_eight pair_a_a p = letter_undo 'a p
+act_eight pair_aA p = letter_undo 'a p
 act_eight pair_Aa p = letter_undo 'A p
-act_eight pair_b_b p = letter_undo 'b p
+act_eight pair_bB p = letter_undo 'b p
 act_eight pair_Bb p = letter_undo 'B p
 act_eight first p = act_relator1 p
 act_eight second p = act_relator2 p

@@ -6,7 +6,7 @@ use Prim.Native.Nat.{ℕ, zero, suc}
 use lib.ListN.{replicate}
 use Rattle.lists.proofs.Copies.{replicate_past}
 use Rattle.group.specs.Letters.{Letter, 'a, 'A, 'b, 'B, Word, inverse_letter, inverse}
-use Rattle.group.specs.Chains.{Strings, Eight, pair_a_a, pair_Aa, pair_b_b, pair_Bb}
+use Rattle.group.specs.Chains.{Strings, Eight, pair_aA, pair_Aa, pair_bB, pair_Bb}
 use Rattle.group.proofs.Congruence.{Congruent, ≈_refl, ≈_sym, ≈_cons, ≈_drop, ◌⟫◌, ≈_path, ≈_front, ≈_back}
 
 pub inverse_letter_twice : (x : Letter) → inverse_letter (inverse_letter x) ≡ x
@@ -41,9 +41,9 @@ abbrev pub HasPairs : Strings → Type 0
 HasPairs R = (x : Letter) → R (x ∷ inverse_letter x ∷ [])
 
 pub eight_pairs : HasPairs Eight
-eight_pairs 'a = pair_a_a
+eight_pairs 'a = pair_aA
 eight_pairs 'A = pair_Aa
-eight_pairs 'b = pair_b_b
+eight_pairs 'b = pair_bB
 eight_pairs 'B = pair_Bb
 
 module _ {R : Strings} (pairs : HasPairs R) where

@@ -6,7 +6,7 @@ use Prim.Native.Nat.{ℕ, zero, suc}
 use lib.ListN.{replicate}
 use Rattle.lists.specs.Copies.{copies}
 use Rattle.group.specs.Letters.{Letter, 'a, 'A, Word, inverse}
-use Rattle.group.specs.Chains.{pair_a_a}
+use Rattle.group.specs.Chains.{pair_aA}
 use Rattle.group.specs.Forms.{Form, empty, level, generator, ascending, descending, letters}
 use Rattle.group.proofs.Congruence.{◌≈◌, ≈_cons, ≈_drop, ◌⟫◌, ≈_path, ≈_front, ≈_back, ≈_append}
 use Rattle.group.proofs.Shift.{σ, σ_cong, A-past}
@@ -25,7 +25,7 @@ level_cong b a h = ≈_front (replicate b 'a) (≈_back (σ_cong h) (replicate a
 
 -- a^(n+1) A is a^n.
 cancel_power : (n : ℕ) (t : Word) → (replicate (suc n) 'a ++ ('A ∷ t)) ≈ (replicate n 'a ++ t)
-cancel_power zero t = ≈_drop pair_a_a t
+cancel_power zero t = ≈_drop pair_aA t
 cancel_power (suc n) t = ≈_cons 'a (cancel_power n t)
 
 -- A reducing step at the first level: the level (0, 0) above it goes.

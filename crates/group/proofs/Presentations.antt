@@ -6,7 +6,7 @@ use mathlib.Core.Logic.{◌↔◌}
 use Prim.Native.Nat.{suc}
 use native.Mathlib.Omega.{arith}
 use Rattle.group.specs.Letters.{'a, 'A, 'b, 'B, Word, inverse}
-use Rattle.group.specs.Chains.{Strings, JoinedBy, relator1, relator2, Eight, pair_a_a, pair_Aa, pair_b_b, pair_Bb}
+use Rattle.group.specs.Chains.{Strings, JoinedBy, relator1, relator2, Eight, pair_aA, pair_Aa, pair_bB, pair_Bb}
 use Rattle.group.specs.Chains.{Joined, first, second, first_inverse, second_inverse}
 use Rattle.group.specs.Forms.{generator}
 use Rattle.group.specs.Presentations.{Infinite, pair, conjugate}
@@ -37,9 +37,9 @@ relator2_vanishes : Congruent Infinite relator2 []
 relator2_vanishes = via pair "aBAAbaabAAABaa" "" "a" "A" (≈_drop (conjugate 1 3 (omega arith)) []) refl refl
 
 eight_vanishes : (r : Word) → Eight r → Congruent Infinite r []
-eight_vanishes r pair_a_a = ≈_drop (pair 'a) []
+eight_vanishes r pair_aA = ≈_drop (pair 'a) []
 eight_vanishes r pair_Aa = ≈_drop (pair 'A) []
-eight_vanishes r pair_b_b = ≈_drop (pair 'b) []
+eight_vanishes r pair_bB = ≈_drop (pair 'b) []
 eight_vanishes r pair_Bb = ≈_drop (pair 'B) []
 eight_vanishes r first = relator1_vanishes
 eight_vanishes r second = relator2_vanishes

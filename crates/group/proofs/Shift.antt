@@ -4,7 +4,7 @@
 use mathlib.Core.Path.{◌≡◌, refl, sym, ap, ◌≡⟨◌⟩◌, ◌∎}
 use mathlib.Core.List.{[], ◌∷◌, ◌++◌}
 use Rattle.group.specs.Letters.{Letter, 'a, 'A, 'b, 'B, Word, inverse}
-use Rattle.group.specs.Chains.{relator1, relator2, Eight, pair_a_a, pair_Aa, pair_b_b, pair_Bb, first, second}
+use Rattle.group.specs.Chains.{relator1, relator2, Eight, pair_aA, pair_Aa, pair_bB, pair_Bb, first, second}
 use Rattle.group.specs.Chains.{first_inverse, second_inverse}
 use Rattle.group.proofs.Congruence.{◌≈◌, ≈_refl, ≈_sym, ≈_trans, ≈_cons, ≈_drop, ◌⟫◌, ≈_path, ≈_front, ≈_back}
 use Rattle.group.proofs.Inverses.{inverse-append, inverse_cong, eight_pairs}
@@ -82,9 +82,9 @@ x4_past_x1 =
     ⟫ via eight_pairs "bAAAAbaaaaBAAABaaa" "" "" "BAAABaaa" (≈_sym x4_past_x1) refl refl
 
 σ_eight : {r : Word} → Eight r → σ r ≈ []
-σ_eight pair_a_a = free eight_pairs (word "bB") [] refl
+σ_eight pair_aA = free eight_pairs (word "bB") [] refl
 σ_eight pair_Aa = free eight_pairs (word "Bb") [] refl
-σ_eight pair_b_b = free eight_pairs (word "AbaABa") [] refl
+σ_eight pair_bB = free eight_pairs (word "AbaABa") [] refl
 σ_eight pair_Bb = free eight_pairs (word "ABaAba") [] refl
 σ_eight first = σ_relator1
 σ_eight second = σ_relator2
@@ -102,8 +102,8 @@ pub σ_cong : {u v : Word} → u ≈ v → σ u ≈ σ v
 -- A passes σ(σ g) and leaves σ g.
 pub A-past : (g t : Word) → (σ (σ g) ++ ('A ∷ t)) ≈ ('A ∷ (σ g ++ t))
 A-past [] t = ≈_refl
-A-past ('a ∷ g) t = ≈_front (word "Aba") (A-past g t) ⟫ ≈_front (word "Ab") (≈_drop pair_a_a (σ g ++ t))
-A-past ('A ∷ g) t = ≈_front (word "ABa") (A-past g t) ⟫ ≈_front (word "AB") (≈_drop pair_a_a (σ g ++ t))
+A-past ('a ∷ g) t = ≈_front (word "Aba") (A-past g t) ⟫ ≈_front (word "Ab") (≈_drop pair_aA (σ g ++ t))
+A-past ('A ∷ g) t = ≈_front (word "ABa") (A-past g t) ⟫ ≈_front (word "AB") (≈_drop pair_aA (σ g ++ t))
 A-past ('b ∷ g) t =
     ≈_front (word "BAbab") (A-past g t)
     ⟫ ≈_back (via eight_pairs "BAbabA" "AAba" "B" "A" x2_past_x1 refl refl) (σ g ++ t)
@@ -114,5 +114,5 @@ A-past ('B ∷ g) t =
 -- And σ g passes a as σ(σ g).
 pub a_past : (g t : Word) → (σ g ++ ('a ∷ t)) ≈ ('a ∷ (σ (σ g) ++ t))
 a_past g t =
-    ≈_sym (≈_drop pair_a_a (σ g ++ ('a ∷ t)))
+    ≈_sym (≈_drop pair_aA (σ g ++ ('a ∷ t)))
     ⟫ ≈_cons 'a (≈_sym (A-past g ('a ∷ t)) ⟫ ≈_front (σ (σ g)) (≈_drop pair_Aa t))

@@ -21,9 +21,9 @@ Strings = Word → Type 0
 
 -- The eight strings: four pairs, the two relators, their two inverses.
 pub data Eight : Word → Type 0 where
-  pair_a_a : Eight ('a ∷ 'A ∷ [])
+  pair_aA : Eight ('a ∷ 'A ∷ [])
   pair_Aa : Eight ('A ∷ 'a ∷ [])
-  pair_b_b : Eight ('b ∷ 'B ∷ [])
+  pair_bB : Eight ('b ∷ 'B ∷ [])
   pair_Bb : Eight ('B ∷ 'b ∷ [])
   first : Eight relator1
   second : Eight relator2

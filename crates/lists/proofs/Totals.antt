@@ -57,8 +57,8 @@ total_same (x ∷ xs) (y ∷ ys) h = omega (arith, h 0, total_same xs ys (λ i. 
 pub drop_same : (i : ℕ) (xs ys : List ℕ) → SameEntries xs ys → SameEntries (drop i xs) (drop i ys)
 drop_same i xs ys h j = get_or-drop i xs j 0 ∙ h (i + j) ∙ sym (get_or-drop i ys j 0)
 
-pub drop_total_same : (i : ℕ) (xs ys : List ℕ) → SameEntries xs ys → total (drop i xs) ≡ total (drop i ys)
-drop_total_same i xs ys h = total_same (drop i xs) (drop i ys) (drop_same i xs ys h)
+pub drop-total_same : (i : ℕ) (xs ys : List ℕ) → SameEntries xs ys → total (drop i xs) ≡ total (drop i ys)
+drop-total_same i xs ys h = total_same (drop i xs) (drop i ys) (drop_same i xs ys h)
 
 -- The sum from a place on is at least the entry there.
 pub entry_total : (i : ℕ) (xs : List ℕ) → get_or xs i 0 ≤ total (drop i xs)

@@ -31,7 +31,7 @@ use Rattle.bitrows.specs.inside.Nodes.{Nodes}
 use Rattle.bitrows.proofs.NodeLists.{nodes_in_append, nodes-length, values-nodes}
 use Rattle.packed.specs.Packing.{summary_at, numbers_for, summary_for, Packs, packs, tree_shape, shape_in, packed_shape}
 use Rattle.packed.specs.Promises.{room_for}
-use Rattle.packed.proofs.Trees.{shape-nodes, span_shape_all, tree_shape_lem, shape_tree, tree_refused}
+use Rattle.packed.proofs.Trees.{shape-nodes, span-shape_all, tree_shape_lem, shape_tree, tree_refused}
 
 -- The test is passed just by what packs the shape.
 pub packs_true : {s numbers summary : List ℕ} → Packs s numbers summary → packs s numbers summary ≡ true
@@ -77,7 +77,7 @@ shape_in_lem t numbers summary p =
     let rest : List ℕ = drop (length s) (nodes_in numbers) in
     let whole : nodes_in numbers ≡ s ++ rest =
     sym (take-append-drop (length s) (nodes_in numbers)) ∙ ap (λ (xs : List ℕ). xs ++ rest) front in
-    let end : span (nodes_in numbers) 1 ≡ length s = ap (λ (xs : List ℕ). span xs 1) whole ∙ span_shape_all t rest in
+    let end : span (nodes_in numbers) 1 ≡ length s = ap (λ (xs : List ℕ). span xs 1) whole ∙ span-shape_all t rest in
     ap (λ (n : ℕ). take n (nodes_in numbers)) end ∙ front
 
 -- What is read is judged by whether it is packed.

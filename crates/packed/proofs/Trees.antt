@@ -55,8 +55,8 @@ shape-total leaf = refl
 shape-total (caret l r) = omega (arith, total-append (shape l) (shape r), shape-total l, shape-total r)
 
 -- The bytes of the first of several subtrees.
-pub span_shape_all : (t : Tree) (rest : List ℕ) → span (shape t ++ rest) 1 ≡ length (shape t)
-span_shape_all t rest = omega (arith, span-shape t 0 rest, span_none rest)
+pub span-shape_all : (t : Tree) (rest : List ℕ) → span (shape t ++ rest) 1 ≡ length (shape t)
+span-shape_all t rest = omega (arith, span-shape t 0 rest, span_none rest)
 
 -- The bytes are the shape of a tree within the bound.
 abbrev pub IsTree : List ℕ → Type 0

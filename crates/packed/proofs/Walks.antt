@@ -26,7 +26,7 @@ use Rattle.bitrows.specs.inside.Walking.{Leaves, walk_end_value, Walked}
 use Rattle.bitrows.proofs.NodeLists.{nodes-length}
 use Rattle.packed.specs.Packing.{packs, tree_shape, shape_in, packed_shape}
 use Rattle.packed.specs.inside.Steps.{shape_of, Within}
-use Rattle.packed.proofs.Trees.{IsTree, closes_exact, span_shape_all, shape_tree, tree_refused}
+use Rattle.packed.proofs.Trees.{IsTree, closes_exact, span-shape_all, shape_tree, tree_refused}
 
 -- Nothing is to come behind the nodes of a tree.
 leaves-shape : (t : Tree) (q : ℕ) → Leaves (shape t) 1 q → q ≡ 0
@@ -56,7 +56,7 @@ walk_closes t numbers rest from w h e l = go w.pending refl h.ended
 
     spanned : length (shape t) ≡ n + span (drop n s) w.pending
     spanned =
-        sym (ap (λ (u : List ℕ). span u 1) e ∙ span_shape_all t rest)
+        sym (ap (λ (u : List ℕ). span u 1) e ∙ span-shape_all t rest)
         ∙ ap (λ (u : List ℕ). span u 1) (sym (take-append-drop n s))
         ∙ h.leaves.spans_on (drop n s)
         ∙ ap (λ (k : ℕ). k + span (drop n s) w.pending) passed

@@ -7,7 +7,7 @@ use Rattle.lines.specs.declared.Fed.{Fed}
 use Rattle.rows.specs.Receipts.{receipt_of, receipt_size}
 use Rattle.receipts.specs.Serving.{Amid, line_size, next_number, receipt_then, served, part_size}
 use Rattle.receipts.specs.inside.Taking.{PartTaken}
-use Rattle.receipts.proofs.Turns.{Ends, RunsOut, turn-ends, turn_runs_out}
+use Rattle.receipts.proofs.Turns.{Ends, RunsOut, turn-ends, turn-runs_out}
 use Rattle.rows.proofs.Sizes.{receipt_length}
 use Rattle.receipts.proofs.Bounds.{room}
 
@@ -102,7 +102,7 @@ module _ {part out₀ : List ℕ} {whole : Amid} {line out : List ℕ} {at k h w
   module _ (e : fed.ended ≡ false) where
     -- All that is left of the part was taken.
     runs_out : RunsOut (drop at part) at k line h (record { line = line'; fed = fed })
-    runs_out = turn_runs_out k f e
+    runs_out = turn-runs_out k f e
 
     -- The bytes taken are some.
     pub serve_out_less : at < length part → length part - fed.next < length part - at

@@ -105,5 +105,5 @@ module _ {s : List ℕ} {i : ℕ} {line : List ℕ} {held : ℕ} {line' : List �
   turn-ends e = subst (λ (b : Bool). Turn b s i k line held (record { line = line'; fed = r })) e so
 
   -- The part ended.
-  pub turn_runs_out : r.ended ≡ false → RunsOut s i k line held (record { line = line'; fed = r })
-  turn_runs_out e = subst (λ (b : Bool). Turn b s i k line held (record { line = line'; fed = r })) e so
+  pub turn-runs_out : r.ended ≡ false → RunsOut s i k line held (record { line = line'; fed = r })
+  turn-runs_out e = subst (λ (b : Bool). Turn b s i k line held (record { line = line'; fed = r })) e so

@@ -45,8 +45,8 @@ cancel_Aa k =
     ≈_path (ap (λ (w : Word). replicate k 'A ++ w) (sym (inverse-replicate k 'A)))
     ⟫ cancel_behind pair (replicate k 'A)
 
-cancel_a_a : (k : ℕ) (t : Word) → (replicate k 'a ++ (replicate k 'A ++ t)) ~ t
-cancel_a_a k t =
+cancel_aA : (k : ℕ) (t : Word) → (replicate k 'a ++ (replicate k 'A ++ t)) ~ t
+cancel_aA k t =
     ≈_path (ap (λ (w : Word). w ++ (replicate k 'A ++ t)) (sym (inverse-replicate k 'A)))
     ⟫ cancel_front pair (replicate k 'A) t
 
@@ -57,7 +57,7 @@ power k x (suc e) =
     ≈_front (replicate k 'A ++ (x ∷ replicate k 'a)) (power k x e)
     ⟫ ≈_path
     (append_assoc (replicate k 'A) (x ∷ replicate k 'a) (replicate k 'A ++ (replicate e x ++ replicate k 'a)))
-    ⟫ ≈_front (replicate k 'A) (≈_cons x (cancel_a_a k (replicate e x ++ replicate k 'a)))
+    ⟫ ≈_front (replicate k 'A) (≈_cons x (cancel_aA k (replicate e x ++ replicate k 'a)))
 
 regroup : (p q r s : Word) → (p ++ (q ++ r)) ++ s ≡ p ++ (q ++ (r ++ s))
 regroup p q r s = append_assoc p (q ++ r) s ∙ ap (λ (w : Word). p ++ w) (append_assoc q r s)

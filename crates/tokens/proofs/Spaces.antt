@@ -13,9 +13,9 @@ abbrev pub NoSpace : List ℕ → Type 0
 NoSpace [] = Unit {0}
 NoSpace (c ∷ s) = (c ≡ space → ⊥) × NoSpace s
 
-pub no_space_append : (s t : List ℕ) → NoSpace s → NoSpace t → NoSpace (s ++ t)
-no_space_append [] t h g = g
-no_space_append (c ∷ s) t h g = (h.0, no_space_append s t h.1 g)
+pub no_space-append : (s t : List ℕ) → NoSpace s → NoSpace t → NoSpace (s ++ t)
+no_space-append [] t h g = g
+no_space-append (c ∷ s) t h g = (h.0, no_space-append s t h.1 g)
 
 -- Digits are no spaces.
 pub no_space_digits : (d : List ℕ) → Digits d → NoSpace d

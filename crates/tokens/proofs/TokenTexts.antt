@@ -15,7 +15,7 @@ use Rattle.group.specs.Forms.{Side, b_side, a_side}
 use Rattle.group.specs.Powers.{SignedPower, signed_power}
 use Rattle.tokens.specs.Tokens.{power_sign, minus_sign, exponent_text, token_text}
 use Rattle.tokens.specs.inside.Ends.{AtEnd}
-use Rattle.tokens.proofs.Spaces.{NoSpace, no_space_append, no_space_digits, space_prefix}
+use Rattle.tokens.proofs.Spaces.{NoSpace, no_space-append, no_space_digits, space_prefix}
 
 -- An exponent's text holds no space.
 exponent_no_space : (s : Side) (e : ℕ) → NoSpace (exponent_text s e)
@@ -31,7 +31,7 @@ exponent_no_space a_side e =
 pub token_no_space : (p : SignedPower) → NoSpace (token_text p)
 token_no_space (signed_power s k e) = (
   λ h. omega arith,
-  no_space_append (decimal k) (exponent_text s e) (no_space_digits (decimal k) (decimal_digits k))
+  no_space-append (decimal k) (exponent_text s e) (no_space_digits (decimal k) (decimal_digits k))
       (exponent_no_space s e),
 )
 

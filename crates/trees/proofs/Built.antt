@@ -93,18 +93,18 @@ abbrev row_carets : List Tree → ℕ
 row_carets [] = 0
 row_carets (t ∷ ts) = carets t + row_carets ts
 
-row_carets_later : (ts : List Tree) → row_carets ts ≡ carets (first_tree ts) + row_carets (later_trees ts)
-row_carets_later [] = refl
-row_carets_later (t ∷ ts) = refl
+row_carets-later : (ts : List Tree) → row_carets ts ≡ carets (first_tree ts) + row_carets (later_trees ts)
+row_carets-later [] = refl
+row_carets-later (t ∷ ts) = refl
 
-row_carets_grow : (e : ℕ) (t : Tree) (ts : List Tree) → row_carets (grow e t ts) ≡ e + (carets t + row_carets ts)
-row_carets_grow zero t ts = omega arith
-row_carets_grow (suc e) t ts =
-    omega (arith, row_carets_grow e (caret t (first_tree ts)) (later_trees ts), row_carets_later ts)
+row_carets-grow : (e : ℕ) (t : Tree) (ts : List Tree) → row_carets (grow e t ts) ≡ e + (carets t + row_carets ts)
+row_carets-grow zero t ts = omega arith
+row_carets-grow (suc e) t ts =
+    omega (arith, row_carets-grow e (caret t (first_tree ts)) (later_trees ts), row_carets-later ts)
 
 row_carets_lem : (es : List ℕ) → row_carets (row_of es) ≡ total es
 row_carets_lem [] = refl
-row_carets_lem (e ∷ es) = omega (arith, row_carets_grow e leaf (row_of es), row_carets_lem es)
+row_carets_lem (e ∷ es) = omega (arith, row_carets-grow e leaf (row_of es), row_carets_lem es)
 
 row_carets_none : (ts : List Tree) → ((i : ℕ) → tree_at i ts ≡ leaf) → row_carets ts ≡ 0
 row_carets_none [] h = refl
@@ -113,30 +113,30 @@ row_carets_none (t ∷ ts) h = omega (arith, ap carets (h 0), row_carets_none ts
 over_carets : (n : ℕ) (ts : List Tree) → LeavesFrom n ts → carets (over_row n ts) ≡ n + row_carets ts
 over_carets zero ts h = omega (arith, row_carets_none ts (λ i. h i (omega arith)))
 over_carets (suc n) ts h =
-    omega (arith, over_carets n (later_trees ts) (λ i p. h (suc i) (omega arith)), row_carets_later ts)
+    omega (arith, over_carets n (later_trees ts) (λ i p. h (suc i) (omega arith)), row_carets-later ts)
 
 -- The exponents of a row of trees.
 abbrev row_exponents : List Tree → List ℕ
 row_exponents [] = []
 row_exponents (t ∷ ts) = left_edge t ∷ (later t ++ row_exponents ts)
 
-row_exponents_later : (ts : List Tree)
+row_exponents-later : (ts : List Tree)
     → SameEntries (row_exponents ts) (left_edge (first_tree ts) ∷ (later (first_tree ts) ++ row_exponents (later_trees ts)))
-row_exponents_later [] zero = refl
-row_exponents_later [] (suc i) = refl
-row_exponents_later (t ∷ ts) i = refl
+row_exponents-later [] zero = refl
+row_exponents-later [] (suc i) = refl
+row_exponents-later (t ∷ ts) i = refl
 
-row_exponents_grow : (e : ℕ) (t : Tree) (ts : List Tree) (k : ℕ) → k ≡ e + left_edge t
+row_exponents-grow : (e : ℕ) (t : Tree) (ts : List Tree) (k : ℕ) → k ≡ e + left_edge t
     → SameEntries (row_exponents (grow e t ts)) (k ∷ (later t ++ row_exponents ts))
-row_exponents_grow zero t ts k h i =
+row_exponents-grow zero t ts k h i =
     same_cons (left_edge t) k (later t ++ row_exponents ts) (later t ++ row_exponents ts) (omega arith) (λ j. refl) i
-row_exponents_grow (suc e) t ts k h i =
+row_exponents-grow (suc e) t ts k h i =
     get_or (row_exponents (grow e (caret t u) us)) i 0
-    ≡⟨ row_exponents_grow e (caret t u) us k (omega arith) i ⟩
+    ≡⟨ row_exponents-grow e (caret t u) us k (omega arith) i ⟩
     get_or (k ∷ ((later t ++ (left_edge u ∷ later u)) ++ row_exponents us)) i 0
     ≡⟨ ap (λ (es : List ℕ). get_or (k ∷ es) i 0) (append_assoc (later t) (left_edge u ∷ later u) (row_exponents us)) ⟩
     get_or (k ∷ (later t ++ next)) i 0
-    ≡⟨ sym (same_append (k ∷ later t) (row_exponents ts) next (row_exponents_later ts) i) ⟩
+    ≡⟨ sym (same_append (k ∷ later t) (row_exponents ts) next (row_exponents-later ts) i) ⟩
     get_or (k ∷ (later t ++ row_exponents ts)) i 0 ∎
   where
     u : Tree
@@ -151,7 +151,7 @@ row_exponents_grow (suc e) t ts k h i =
 row_exponents_lem : (es : List ℕ) → SameEntries (row_exponents (row_of es)) es
 row_exponents_lem [] i = refl
 row_exponents_lem (e ∷ es) i =
-    row_exponents_grow e leaf (row_of es) e (omega arith) i
+    row_exponents-grow e leaf (row_of es) e (omega arith) i
     ∙ same_cons e e (row_exponents (row_of es)) es refl (row_exponents_lem es) i
 
 row_exponents_none : (ts : List Tree) → ((i : ℕ) → tree_at i ts ≡ leaf) → SameEntries (row_exponents ts) []
@@ -168,7 +168,7 @@ over_exponents zero ts h i = same_zero i ∙ sym (row_exponents_none ts (λ j. h
 over_exponents (suc n) ts h i =
     same_append (left_edge u ∷ later u) (exponents_of rest) (row_exponents (later_trees ts))
     (over_exponents n (later_trees ts) (λ j p. h (suc j) (omega arith))) i
-    ∙ sym (row_exponents_later ts i)
+    ∙ sym (row_exponents-later ts i)
   where
     u : Tree
     u = first_tree ts

@@ -11,7 +11,7 @@ use native.Mathlib.Decide.{dec_le}
 use lib.ListN.{length, get_or, drop, get_or-eq_default}
 use Rattle.lists.specs.Entries.{total}
 use Rattle.lists.specs.inside.Entries.{SameEntries}
-use Rattle.lists.proofs.Totals.{drop-total, drop_total_same, total_zeros}
+use Rattle.lists.proofs.Totals.{drop-total, drop-total_same, total_zeros}
 use Rattle.trees.specs.Building.{needed}
 
 -- n is above i + e_i + e_(i+1) + … for each i with e_i above 0.
@@ -46,7 +46,7 @@ needed-holds n es = (
 
 -- Whether a number holds depends on the entries only.
 pub holds_same : (n : ℕ) (es fs : List ℕ) → SameEntries es fs → Holds n es → Holds n fs
-holds_same n es fs e h i p = omega (arith, h i (omega (arith, e i)), drop_total_same i es fs e)
+holds_same n es fs e h i p = omega (arith, h i (omega (arith, e i)), drop-total_same i es fs e)
 
 -- And so does the least.
 pub needed_same : (es fs : List ℕ) → SameEntries es fs → needed 0 es ≡ needed 0 fs

@@ -30,7 +30,7 @@ use Rattle.wordlists.specs.Items.{refused_tag, item, items, list_size, tables_th
 use Rattle.wordlists.specs.inside.Steps.{item_size, LongTables, ItemRoom, ItemPut, ListRoom, ItemsPut}
 use Rattle.wordlists.proofs.Lines.{judged_line, read_refused}
 use Rattle.wordlists.proofs.Sizes.{item_size_lem}
-use Rattle.wordlists.proofs.Tables.{line_table_length}
+use Rattle.wordlists.proofs.Tables.{line_table-length}
 
 -- The part of a list from a place on, as it is lent.
 abbrev pub part_from : ℕ → List ℕ → List ℕ
@@ -164,7 +164,7 @@ module _ {list : List ℕ} {entry m : Memory} {at written : ℕ} (p : Putting li
     -- The tables behind the line are as long.
     long : (s : Side) (t : List ℕ) {t' : List ℕ} → limit < length t → t' ≡ table_after s (line_read line) t
         → length t' ≡ length t
-    long s t h e = ap length e ∙ line_table_length s line t h
+    long s t h e = ap length e ∙ line_table-length s line t h
 
     pub putting_more : {m' : Memory} {written' : ℕ} → length m'.buffer ≡ length m.buffer
         → ItemPut line m written m' written' → Putting list entry m' (end + 1) written'

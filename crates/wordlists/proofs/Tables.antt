@@ -26,9 +26,9 @@ table-length s (accepted w) t h =
 table-length s (refused n p) t h = refl
 
 -- A table above the limit, and a line.
-pub line_table_length : (s : Side) (l t : List ℕ) → limit < length t
+pub line_table-length : (s : Side) (l t : List ℕ) → limit < length t
     → length (table_after s (line_read l) t) ≡ length t
-line_table_length s l t long =
+line_table-length s l t long =
     table-length s (line_read l) t (λ w e.
     omega (arith, long, (accepted_fit l (length l + 1) (length l + 1) w e).short, read_letters l w e))
 

@@ -143,7 +143,7 @@ printed = refl
 pub worked : Worked
 worked = record {
   record_empty = refl;
-  record_a_bb_a = refl;
+  record_aBbA = refl;
   record_aBAbabAABa = refl;
   record_b = refl;
   pair_b = measured (word "b") 3 1 (omega arith) refl refl;
@@ -174,7 +174,7 @@ worked = record {
 pub worked_forms : WorkedForms
 worked_forms = record {
   form_empty = refl;
-  form_a_bb_a = refl;
+  form_aBbA = refl;
   form_aBAbabAABa = refl;
   form_b = refl;
   form_Aba = refl;
@@ -204,13 +204,13 @@ entered_BAbab : IsEntered "BAbab" 0 fresh33 (new_entry 1) filedBAbab
 unfolding read_entries bytes_below
 entered_BAbab = record { word = word "BAbab"; text = refl; answer = refl; left = refl }
 
-entered_a_b : IsEntered "aB" 0 fresh30 (new_entry 1) fileda_b
+entered_aB : IsEntered "aB" 0 fresh30 (new_entry 1) fileda_b
 unfolding read_entries bytes_below
-entered_a_b = record { word = word "aB"; text = refl; answer = refl; left = refl }
+entered_aB = record { word = word "aB"; text = refl; answer = refl; left = refl }
 
-entered_b_a : IsEntered "bA" 0 fresh30 (new_entry 1) fileda_b
+entered_bA : IsEntered "bA" 0 fresh30 (new_entry 1) fileda_b
 unfolding read_entries bytes_below
-entered_b_a = record { word = word "bA"; text = refl; answer = refl; left = refl }
+entered_bA = record { word = word "bA"; text = refl; answer = refl; left = refl }
 
 -- What `BAbab` left is read as one entry.
 abbrev one_entry : Register
@@ -243,8 +243,8 @@ worked_registers = record {
   entered_a = entered_a;
   entered_BAbab = entered_BAbab;
   entered_AAbaa = entered_AAbaa;
-  entered_a_b = entered_a_b;
-  entered_b_a = entered_b_a;
+  entered_aB = entered_aB;
+  entered_bA = entered_bA;
 }
 
 -- Verdicts, by computation.
@@ -256,9 +256,9 @@ verdict_ab_BA : HasVerdict "ab" "BA" inverse
 unfolding same_bytes
 verdict_ab_BA = record { first = word "ab"; second = word "BA"; texts = (refl, refl); verdict = refl }
 
-verdict_empty_a_a : HasVerdict "" "aA" same
+verdict_empty_aA : HasVerdict "" "aA" same
 unfolding same_bytes
-verdict_empty_a_a = record { first = []; second = word "aA"; texts = (refl, refl); verdict = refl }
+verdict_empty_aA = record { first = []; second = word "aA"; texts = (refl, refl); verdict = refl }
 
 verdict_ab_ba : HasVerdict "ab" "ba" different
 unfolding same_bytes
@@ -268,6 +268,6 @@ pub worked_verdicts : WorkedVerdicts
 worked_verdicts = record {
   verdict_a_A = verdict_a_A;
   verdict_ab_BA = verdict_ab_BA;
-  verdict_empty_a_a = verdict_empty_a_a;
+  verdict_empty_aA = verdict_empty_aA;
   verdict_ab_ba = verdict_ab_ba;
 }

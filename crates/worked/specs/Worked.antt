@@ -163,7 +163,7 @@ weight_row x = weight x R0 ∷ weight x RN ∷ weight x RI ∷ weight x LL ∷ w
 pub record Worked : Type 0 where
   -- P empty word: 010000020000. P `aBbA`, P `aBAbabAABa`: the same.
   pub record_empty : HasRecord "" empty_record
-  pub record_a_bb_a : HasRecord "aBbA" empty_record
+  pub record_aBbA : HasRecord "aBbA" empty_record
   pub record_aBAbabAABa : HasRecord "aBAbabAABa" empty_record
   -- P `b`: 0100040001 0001 020000 without the spaces; N 3, length 1.
   pub record_b : HasRecord "b" record_of_b
@@ -207,7 +207,7 @@ pub record Worked : Type 0 where
 pub record WorkedForms : Type 0 where
   -- Of the words.
   pub form_empty : HasForm "" empty
-  pub form_a_bb_a : HasForm "aBbA" empty
+  pub form_aBbA : HasForm "aBbA" empty
   pub form_aBAbabAABa : HasForm "aBAbabAABa" empty
   pub form_b : HasForm "b" x1
   pub form_Aba : HasForm "Aba" x2
@@ -239,12 +239,12 @@ pub record WorkedRegisters : Type 0 where
   -- `AAbaa`, the same element, holder 7, into what that left: entry 1 is there already, and nothing is changed.
   pub entered_AAbaa : IsEntered "AAbaa" 7 filedBAbab (present 1) filedBAbab
   -- `aB`, and its inverse `bA`, holder 0, each into a fresh register that it fills: the same record is stored.
-  pub entered_a_b : IsEntered "aB" 0 fresh30 (new_entry 1) fileda_b
-  pub entered_b_a : IsEntered "bA" 0 fresh30 (new_entry 1) fileda_b
+  pub entered_aB : IsEntered "aB" 0 fresh30 (new_entry 1) fileda_b
+  pub entered_bA : IsEntered "bA" 0 fresh30 (new_entry 1) fileda_b
 
 -- Verdicts of 02, [7].
 pub record WorkedVerdicts : Type 0 where
   pub verdict_a_A : HasVerdict "a" "A" inverse
   pub verdict_ab_BA : HasVerdict "ab" "BA" inverse
-  pub verdict_empty_a_a : HasVerdict "" "aA" same
+  pub verdict_empty_aA : HasVerdict "" "aA" same
   pub verdict_ab_ba : HasVerdict "ab" "ba" different
