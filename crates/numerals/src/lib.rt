@@ -1,3 +1,2 @@
 // Decimal numerals, in specs/ and proofs/. No running code.
 #![tactic(auto)]
-
