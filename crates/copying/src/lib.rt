@@ -1,6 +1,7 @@
-// The front of a table, copied into another.
+// The front of a table, copied into another, and bytes, copied to the front of a buffer.
 #![tactic(auto)]
 
+ghost use Rattle.std.specs.Prelude.{◌≡◌, ◌++◌, length, min, take, drop};
 ghost use Rattle.copying.specs.inside.Copying.{Copied};
 
 // The first n entries of one table, at the front of another; nothing where either has fewer.
@@ -18,4 +19,14 @@ pub fn copy_front(from: &[u16], table: &mut [u16], n: usize)
         table[i] = from[i];
         i += 1;
     }
+}
+
+// As many bytes as both have, from the front of one to the front of another; the answer is how many.
+pub fn copy_bytes(from: &[u8], to: &mut [u8]) -> usize
+    ensures count { result ≡ min (length from.now) (length to.old) }
+    ensures copied { to.new ≡ take result from.now ++ drop result to.old }
+{
+    let n = from.len().min(to.len());
+    to[..n].copy_from_slice(&from[..n]);
+    n
 }
