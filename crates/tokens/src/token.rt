@@ -8,7 +8,7 @@ use crate::{exponents, numbers};
 use refusals::LIMIT;
 
 // The power of a token, and the place behind it.
-#[derive(Drop)]
+#[derive(Clone, Copy)]
 pub struct Power {
     pub side: u8,
     pub index: usize,
