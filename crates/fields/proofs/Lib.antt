@@ -6,7 +6,3 @@ pub mod FieldsAt
 pub mod RoundTrip
 -- what is written at the front of a buffer
 pub mod Putting
--- the calls of a walk by hand; what a field reader owns, and its method
-pub mod ReturnedCalls
-pub mod ReaderParts
-pub mod ReaderMethods

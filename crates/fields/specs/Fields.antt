@@ -1,8 +1,8 @@
 -- Numbers and fields in bytes (01, 'The record'): all numbers are unsigned, high byte first; a field is a one-byte tag,
 -- a two-byte length, then that many bytes.
---     two_bytes_is x       the number x in two bytes           two_at s at   the two-byte number at an offset of the bytes
---     four_bytes x      the number x in four bytes          four_at_value s at  the four-byte number at an offset
---     field tag body   the field of a body                 Bytes s      every element of s is a byte
+--     two_bytes x      the number x in two bytes     two_at s at         the two-byte number at an offset of the bytes
+--     four_bytes x     the number x in four bytes    four_at_value s at  the four-byte number at an offset
+--     field tag body   the field of a body           Bytes s             every element of s is a byte
 -- Assumes nothing.
 use Rattle.std.specs.Prelude.{List, [], ◌∷◌, ◌++◌, ℕ, ◌+◌, ◌*◌, ◌/◌, ◌%◌, ◌<◌, length, get_or}
 

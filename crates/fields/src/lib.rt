@@ -8,6 +8,7 @@ ghost use Rattle.fields.specs.Fields.{two_bytes, head_size};
 ghost use Rattle.fields.specs.inside.Reading.{field_at};
 ghost use Rattle.fields.specs.inside.Writing.{most_body, field_in};
 
+use copying::copy_bytes;
 use refusals::{Refusal, Reply};
 
 pub mod integers;
@@ -19,14 +20,14 @@ pub const HEAD_SIZE: usize = 3;
 const MOST: usize = 65535;
 
 // The field at a place, by the length of its body, or none.
-#[derive(Drop)]
+#[derive(Clone, Copy)]
 pub enum Field {
     Body(usize),
     Missing,
 }
 
 // A place in bytes, at which a field is read.
-#[derive(Drop)]
+#[derive(Clone, Copy)]
 pub struct FieldReader<'a> {
     pub bytes: &'a [u8],
     pub at: usize,
@@ -101,6 +102,6 @@ pub fn put_field(tag: u8, body: &[u8], out: &mut [u8]) -> Reply
         return Reply::Refused(Refusal::ShortBuffer);
     }
     put_head(tag, n, out);
-    let copied = bytes::copy(body, &mut out[HEAD_SIZE..]);
+    let copied = copy_bytes(body, &mut out[HEAD_SIZE..]);
     Reply::Number(HEAD_SIZE + copied)
 }
