@@ -29,7 +29,7 @@ pub const ROW_ROOM: usize = LIMIT + LIMIT + 4;
 // The answer of `fill_tables` and of `fill_powers`: how many levels of the form were read; a refusal of the word, the
 // powers or the tables; or scratch that is too short for the word or of other sizes than for powers, or powers that are
 // unfit.
-#[derive(Drop)]
+#[derive(Clone, Copy)]
 pub enum Filling {
     Filled(usize),
     Refused(Refusal),
