@@ -15,7 +15,7 @@ pub const INSIDE_LEAF: u8 = 2;
 pub const INSIDE_CARET: u8 = 3;
 
 // The kinds of carets behind caret 0, in the order of Fordham's table.
-#[derive(Drop)]
+#[derive(Clone, Copy)]
 pub enum CaretKind {
     R0,
     RN,
