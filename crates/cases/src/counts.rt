@@ -1,7 +1,9 @@
 // How many were tried, and how many of them are right.
-use libc::STDOUT_FILENO;
 
-#[derive(Drop)]
+// The number of standard output.
+const STDOUT: i32 = 1;
+
+#[derive(Clone, Copy)]
 pub struct Counts {
     pub right: u64,
     pub all: u64,
@@ -9,13 +11,13 @@ pub struct Counts {
 
 // A text.
 pub fn print_text(text: &[u8]) {
-    io::write_all(STDOUT_FILENO, text);
+    io::write_all(STDOUT, text);
 }
 
 // A text, and a number behind it.
 pub fn print_number(text: &[u8], n: u64) {
     print_text(text);
-    io::print_decimal(STDOUT_FILENO, n);
+    io::print_decimal(STDOUT, n);
 }
 
 // `33 of 33 traps`.

@@ -6,7 +6,7 @@ use crate::parts;
 use std::num::{wrapping_add_u64, wrapping_add_usize, wrapping_sub_usize};
 
 // How much of two tables and of a buffer is lent.
-#[derive(Drop)]
+#[derive(Clone, Copy)]
 pub struct Sizes {
     pub b: usize,
     pub a: usize,
