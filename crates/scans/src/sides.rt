@@ -7,7 +7,7 @@ ghost use Rattle.scans.specs.inside.Steps.{bit_of, next_side, run_of, Runs, pass
 use lengths::kinds::INSIDE_LEAF;
 
 // The interior subtrees that are open over a caret, and the carets of the left side to come at or behind it.
-#[derive(Drop)]
+#[derive(Clone, Copy)]
 pub struct Side {
     pub subtrees: usize,
     pub lefts: usize,
