@@ -14,7 +14,7 @@ pub const NONE: u8 = 16;
 
 // Amid a line: how many bytes are held, the digit that waits for its second, the characters so far, and whether the
 // next of them is out of place.
-#[derive(Drop)]
+#[derive(Clone, Copy)]
 pub struct Amid {
     pub held: usize,
     pub high: u8,
