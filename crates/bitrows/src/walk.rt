@@ -13,7 +13,7 @@ use trees::MAX_CARETS;
 pub const NUMBERS: usize = (2 * MAX_CARETS + 1 + NODES - 1) / NODES;
 
 // How far a walk has come: the node that it has reached, and the subtrees to come.
-#[derive(Drop)]
+#[derive(Clone, Copy)]
 pub struct Walk {
     pub at: usize,
     pub pending: usize,
