@@ -3,7 +3,7 @@
 --     reduced_form s   the form, or refusal 5                      decode   the whole
 -- This is how a record is read; that it is the paper's sentences is claimed apart from this. Assumes nothing.
 use Rattle.std.specs.Prelude.{Bool, true, false, cond, List, [], ◌∷◌, ℕ, zero, suc, ◌+◌, ◌/◌, ◌%◌, length, get_or, eqb, ltb}
-use Rattle.group.specs.Forms.{Form, exponent}
+use Rattle.group.specs.Forms.{Form}
 use Rattle.group.specs.UpTo.{form_up_to}
 use Rattle.group.specs.Limits.{limit}
 use Rattle.refusals.specs.Outcomes.{Outcome, accepted, refused, then}

@@ -2,5 +2,5 @@
 -- Inside: no claim reaches these definitions; a reader of the claims need not believe them.
 pub mod Steps
 pub mod Walking
-pub mod Promises
+pub mod Contracts
 pub mod Exchanging

@@ -53,12 +53,12 @@ pub fn same_bodies(s: &[u8], t: &[u8], b_length: usize, a_length: usize) -> bool
 {
     let s_end = HEAD_SIZE + b_length;
     let t_start = BASE_SIZE + a_length;
-    if !check::same(&s[HEAD_SIZE..s_end], &t[t_start..]) {
+    if s[HEAD_SIZE..s_end] != t[t_start..] {
         return false;
     }
     let s_start = BASE_SIZE + b_length;
     let t_end = HEAD_SIZE + a_length;
-    check::same(&s[s_start..], &t[HEAD_SIZE..t_end])
+    s[s_start..] == t[HEAD_SIZE..t_end]
 }
 
 // The exchange, at the front of a buffer.

@@ -6,7 +6,7 @@ use crate::{A_TAG, B_TAG, BASE_SIZE};
 use fields::{Field, HEAD_SIZE};
 
 // The lengths of the two bodies, or fields that do not frame the record.
-#[derive(Drop)]
+#[derive(Clone, Copy)]
 pub enum Frame {
     Exact(usize, usize),
     Broken,

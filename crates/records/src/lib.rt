@@ -8,6 +8,7 @@ ghost use Rattle.records.specs.Exchange.{SmallnessRead};
 ghost use Rattle.records.specs.inside.Contracts.{Decoded};
 ghost use Rattle.records.specs.inside.Exchanging.{framed_above, is_exchange_value, smaller_in};
 
+use copying::copy_bytes;
 use refusals::{Refusal, Reply, Verdict};
 
 mod exchange;
@@ -26,7 +27,7 @@ pub const B_TAG: u8 = 1;
 pub const A_TAG: u8 = 2;
 
 // Whether a record is not above the record with its sides exchanged, or a refusal.
-#[derive(Drop)]
+#[derive(Clone, Copy)]
 pub enum Smallness {
     Smaller(bool),
     Refused(Refusal),
@@ -121,7 +122,7 @@ pub fn put_smaller(record: &[u8], out: &mut [u8]) -> Reply
     if exchange::above(record, b_length, a_length) {
         exchange::put_exchange(record, b_length, a_length, out);
     } else {
-        bytes::copy(record, out);
+        copy_bytes(record, out);
     }
     Reply::Number(record.len())
 }

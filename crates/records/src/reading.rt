@@ -11,7 +11,7 @@ use fields::integers::number_at;
 use refusals::{LIMIT, Refusal, Verdict};
 
 // The sum of the exponents so far, or the offset of an entry that is wrong.
-#[derive(Drop)]
+#[derive(Clone, Copy)]
 pub enum Scan {
     Sum(usize),
     Fault(usize),

@@ -10,7 +10,7 @@ use fields::integers::number_at;
 use refusals::{GeneratorIndex, Refusal, Verdict};
 
 // An entry of a field, by its offset, and how many entries are left from it on.
-#[derive(Drop)]
+#[derive(Clone, Copy)]
 pub struct Place {
     pub at: usize,
     pub left: usize,

@@ -7,16 +7,15 @@ use Prim.Native.Nat.{suc}
 use Rattle.refusals.specs.Outcomes.{drop_value}
 use Rattle.clause.specs.Clause.{find_break}
 use Rattle.records.proofs.Fields.{ordered_first, ordered_second, ordered_form}
-use Rattle.records.proofs.reduced.check_few.Statement.{statement}
-use Rattle.records.proofs.reduced.check_few.Tie as tie
+use Rattle.records.proofs.reduced.check_few.Goals as goal
 
-add-t6 : tie.Need-overflow-add-t6
-add-t6 c = omega (arith, (ordered_second c.before.requires).0)
+pub overflow_add-a : goal.overflow_add-a
+overflow_add-a c = omega (arith, (ordered_second c.requires).0)
 
-walk-requires : tie.Need-walk-requires
-walk-requires c κs =
-    let first = ordered_first c.before.requires in
-    let second = ordered_second c.before.requires in
+pub walk-requires : goal.walk-requires
+walk-requires c =
+    let first = ordered_first c.requires in
+    let second = ordered_second c.requires in
     record {
       b_inside = record { within = first.0 };
       a_inside = record { within = second.0 };
@@ -24,10 +23,7 @@ walk-requires c κs =
       a_proper = second.1;
     }
 
-returns : tie.Need-returns
+pub returns : goal.returns
 returns c =
     c.walk.ensures
-    ∙ ap (λ (f : Form). drop_value (find_break f 0 (suc limit))) (ordered_form c.before.before.requires)
-
-pub check-few-spec : {M : Type 1} → statement M
-check-few-spec = tie.close (tie.spec add-t6 walk-requires returns)
+    ∙ ap (λ (f : Form). drop_value (find_break f 0 (suc limit))) (ordered_form c.requires)
