@@ -10,7 +10,7 @@ use refusals::{LIMIT, Refusal};
 mod writing;
 
 // The record writer's answer: the number of bytes, a refusal, or tables that no record holds.
-#[derive(Drop)]
+#[derive(Clone, Copy)]
 pub enum Encoding {
     Bytes(usize),
     Refused(Refusal),
