@@ -26,7 +26,7 @@ module _ (t : ℕ → ℕ) (small : (i : ℕ) → t i < 65536) where
       → Sized (n + 131072 * m) (behind_runs s (rising t k m))
   sized_rising zero k s z h = record { most = omega (arith, z.most); near = z.near }
   sized_rising {n} (suc m) k s z h =
-      let r = sized_rising m (suc k) (behind_power s k (t (suc k)))
+      let r = sized_rising {n = n + 131072} m (suc k) (behind_power s k (t (suc k)))
       (sized_power s k (t (suc k)) z (omega arith) (small (suc k))) (omega arith) in
       subst (Sized (n + 131072 * suc m)) (sym (behind_put k 'b (t (suc k)) (rising t (suc k) m) s))
       (record { most = omega (arith, r.most); near = r.near })
@@ -35,7 +35,7 @@ module _ (t : ℕ → ℕ) (small : (i : ℕ) → t i < 65536) where
       → Sized (n + 131072 * m) (behind_runs s (falling t m))
   sized_falling zero s z h = record { most = omega (arith, z.most); near = z.near }
   sized_falling {n} (suc m) s z h =
-      let r = sized_falling m (behind_power s m (t (suc m)))
+      let r = sized_falling {n = n + 131072} m (behind_power s m (t (suc m)))
       (sized_power s m (t (suc m)) z (omega arith) (small (suc m))) (omega arith) in
       subst (Sized (n + 131072 * suc m)) (sym (behind_put m 'B (t (suc m)) (falling t m) s))
       (record { most = omega (arith, r.most); near = r.near })

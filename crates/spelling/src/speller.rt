@@ -12,7 +12,7 @@ ghost use Rattle.spelling.specs.inside.Steps.{behind_power, WroteRuns};
 use refusals::GeneratorIndex;
 
 // How many letters are spelled, and how many letters `a` are due behind them.
-#[derive(Drop)]
+#[derive(Clone, Copy)]
 pub struct Speller {
     pub count: usize,
     pub due: usize,
