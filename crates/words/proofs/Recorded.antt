@@ -1,16 +1,13 @@
 -- Word to record with lent scratch, where the record buffer has room: what the engine refuses is refused, and else its
 -- tables give the word's record. Assumes nothing.
-use mathlib.Core.Path.{◌≡◌, refl, sym, ap, ap₂, subst, ◌∙◌}
+use mathlib.Core.Path.{◌≡◌, refl, sym, ap, ap₂, ◌∙◌}
 use mathlib.Core.Bool.{Bool, true, false}
-use mathlib.Core.List.{List, [], ◌∷◌}
-use mathlib.Core.Logic.{inl, inr}
+use mathlib.Core.List.{List}
 use Prim.Native.Nat.{ℕ, suc, ◌+◌, ◌≤◌}
 use native.Mathlib.Omega.{arith}
 use lib.ListN.{length, take}
 use lib.Seq.{sets}
 use borrow.Author.Tests.{le-ltb}
-use types.Run.{OneOf}
-use denote.Enum.Declared.{tag_of}
 use Rattle.lists.specs.Tables.{values, filled}
 use Rattle.lists.proofs.Tables.{values_length, filled_front}
 use Rattle.group.specs.Letters.{Word}
@@ -35,7 +32,6 @@ use Rattle.forest.specs.Filling.{table_after}
 use Rattle.forest.specs.inside.Filling.{fits, judged_in, filling_of, FilledTables}
 use Rattle.forest.specs.declared.Filling.{Filling}
 use Rattle.forest.specs.declared.Filling.TheVariants.{Filled, Refused as NotFilled, Unfit as NoScratch}
-use Rattle.forest.specs.contracts.Filling as Answer
 use Rattle.words.specs.Recording.{encode_word, count_record, buffer_after}
 use Rattle.words.specs.inside.Lending.{recording_of, tested_by, judged_within, RecordedWith, unfilled_by}
 use Rattle.words.specs.declared.Recording.{Recording}
@@ -46,11 +42,6 @@ use Rattle.words.proofs.Judged.{judged_roomy}
 pub tested_accepted : (ok : Bool) (o : Outcome Word) (w : Word) → tested_by ok o ≡ accepted w → o ≡ accepted w
 tested_accepted true o w h = h
 tested_accepted false o w h = absurd (accepted_refused (sym h))
-
--- A number of levels is neither of the other answers.
-filled_not : (n : ℕ) → OneOf (1 ∷ 2 ∷ []) (tag_of Answer.the_type (Filled n)) → ⊥
-filled_not n (inl e) = absurd (omega (arith, e))
-filled_not n (inr e) = absurd (omega (arith, e))
 
 module _ {word b a lefts rights stack b' a' lefts' rights' stack' : List ℕ} {f : Filling} (buffer : List ℕ)
     (roomy : buffer_size (length word) ≤ length buffer)
@@ -77,14 +68,13 @@ module _ {word b a lefts rights stack b' a' lefts' rights' stack' : List ℕ} {f
       }
 
   -- So it is where the tables were not filled.
-  pub engine_unfills : {r : Recording} → OneOf (1 ∷ 2 ∷ []) (tag_of Answer.the_type f) → r ≡ unfilled_by f
+  pub engine_unfills : {r : Recording} → ((n : ℕ) → f ≡ Filled n → ⊥) → r ≡ unfilled_by f
       → RecordedWith word (memory b a buffer) (memory b' a' buffer) lefts rights stack lefts' rights' stack' r
   engine_unfills {r} h e = go f refl
     where
       go : (g : Filling) → f ≡ g
           → RecordedWith word (memory b a buffer) (memory b' a' buffer) lefts rights stack lefts' rights' stack' r
-      go (Filled n) k =
-          absurd (filled_not n (subst (λ (x : Filling). OneOf (1 ∷ 2 ∷ []) (tag_of Answer.the_type x)) k h))
+      go (Filled n) k = absurd (h n k)
       go (NotFilled x) k =
           engine_refuses (number_of x) (place_of x) (ap filling_of k) r (ap recording_of (e ∙ ap unfilled_by k))
       go NoScratch k = engine_refuses 0 0 (ap filling_of k) r (ap recording_of (e ∙ ap unfilled_by k))

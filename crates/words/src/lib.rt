@@ -14,7 +14,7 @@ use refusals::{Refusal, Reply, Verdict};
 mod lending;
 
 // The answer of `record_with`: the bytes of the record; a refusal; or scratch that is too short.
-#[derive(Drop)]
+#[derive(Clone, Copy)]
 pub enum Recording {
     Bytes(usize),
     Refused(Refusal),
