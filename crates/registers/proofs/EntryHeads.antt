@@ -1,15 +1,12 @@
 -- The first field of a register and the head of an entry, by the fields that are read. Assumes nothing.
 use mathlib.Core.Path.{◌≡◌, refl, sym, ap, ap₂, ◌∙◌}
 use mathlib.Core.Bool.{Bool, true, false, cond}
-use mathlib.Core.Logic.{⊎_elim}
 use mathlib.Core.List.{List, [], ◌∷◌}
 use Prim.Native.Nat.{ℕ, ◌+◌, ◌-◌, ◌<◌, ◌≤◌}
 use native.Mathlib.Omega.{arith}
 use lib.ListN.{length, get_or, take, drop, length-drop, drop_of_length-le}
 use lib.Seq.{get_or-drop, drop-cons, drop-drop}
 use lib.Dec.{eqb, ltb}
-use types.Run.{OneOf}
-use denote.Enum.Declared.{tag_of}
 use borrow.Author.Tests.{ltb-false, eqb-true, le-ltb, eq-eqb, ne_eqb}
 use Rattle.fields.specs.Fields.{two_at, four_at_value, head_size}
 use Rattle.fields.specs.declared.Field.TheVariants as Fields
@@ -24,7 +21,6 @@ use Rattle.registers.specs.Format.{last_tag, entry_tag, number_size, entry_base,
 use Rattle.registers.specs.Reading.{ends, entry_size, entry_stands, first_stands, number_in, holder_in, record_in}
 use Rattle.registers.specs.Answers.{heading_of, heading_at}
 use Rattle.registers.specs.inside.Steps.{first_of, Headed}
-use Rattle.registers.specs.contracts.EntryAt as Answer
 
 -- Numbers behind a place.
 pub two_drop : (s : List ℕ) (at k : ℕ) → two_at (drop at s) k ≡ two_at s (at + k)
@@ -250,14 +246,9 @@ entry_stood s at h e = go (ends (drop at s)) (entry_stands (drop at s)) refl e
     go true q a b = let z : ◌≡◌ {A = ℕ} 0 1 = cc in absurd (omega arith)
 
 -- Where the answer is no entry, none stands.
-pub no_entry : (s : List ℕ) (at : ℕ) (r : EntryAt) → r ≡ heading_at s at → OneOf (1 ∷ 2 ∷ []) (tag_of Answer.the_type r)
+pub no_entry : (s : List ℕ) (at : ℕ) (r : EntryAt) → r ≡ heading_at s at → ((h : Heading) → r ≡ Entries.Entry h → ⊥)
     → entry_stands (drop at s) ≡ false
-no_entry s at r e keys = stands_false (drop at s) (λ h. go r (e ∙ stands_entry s at h) keys)
-  where
-    go : (r : EntryAt) → r ≡ Entries.Entry (heading_of (drop at s) at) → OneOf (1 ∷ 2 ∷ []) (tag_of Answer.the_type r) → ⊥
-    go (Entries.Entry h) q k = ⊎_elim (λ x. omega arith) (λ x. omega arith) k
-    go Entries.End q k = let z : ◌≡◌ {A = ℕ} 0 1 = cc in omega arith
-    go (Entries.Refused x) q k = let z : ◌≡◌ {A = ℕ} 0 1 = cc in omega arith
+no_entry s at r e other = stands_false (drop at s) (λ h. other (heading_of (drop at s) at) (e ∙ stands_entry s at h))
 
 -- Its record lies behind its head and within the bytes.
 module _ {s : List ℕ} {at : ℕ} {h : Heading} (d : Headed s at (two_at (drop at s) 1)) (e : h ≡ heading_of (drop at s) at)

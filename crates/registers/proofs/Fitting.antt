@@ -1,15 +1,12 @@
 -- The tests of one entry against those before it, and the answer where none stands. Assumes nothing.
 use mathlib.Core.Path.{◌≡◌, refl, sym, ap, ◌∙◌}
 use mathlib.Core.Bool.{Bool, true, false}
-use mathlib.Core.Logic.{⊎_elim}
-use mathlib.Core.List.{List, [], ◌∷◌}
+use mathlib.Core.List.{List}
 use mathlib.Core.Option.{Option, none, some}
 use Prim.Native.Nat.{ℕ, ◌-◌, ◌<◌, ◌≤◌}
 use native.Mathlib.Omega.{arith}
 use lib.ListN.{get_or, take, drop}
 use lib.Dec.{ltb}
-use types.Run.{OneOf}
-use denote.Enum.Declared.{tag_of}
 use borrow.Author.Tests.{lt-ltb, le-ltb}
 use Rattle.refusals.specs.declared.Refusal.TheVariants.{BadRegister}
 use Rattle.registers.specs.declared.EntryAt.{EntryAt}
@@ -24,7 +21,6 @@ use Rattle.registers.specs.Finding.{found}
 use Rattle.registers.specs.Answers.{search_of}
 use Rattle.registers.specs.inside.Steps.{EntryHead, accepts, found_in, found_above, is_new_value, entry_fits, ended_by}
 use Rattle.registers.specs.inside.Steps.{fingerprint, low_place_value, high_place_value, count_at, mark}
-use Rattle.registers.specs.contracts.EntryAt as Answer
 use Rattle.registers.proofs.EntryHeads.{EntryStood, record_part}
 
 -- What a search found.
@@ -36,10 +32,10 @@ found_search none = refl
 found_search (some k) = refl
 
 -- The answer where no entry stands.
-pub ended_wrong : (r : EntryAt) (last at low live : ℕ) → OneOf (0 ∷ 2 ∷ []) (tag_of Answer.the_type r)
+pub ended_wrong : (r : EntryAt) (last at low live : ℕ) → (r ≡ Entries.End → ⊥)
     → Summaries.Refused BadRegister ≡ ended_by r last at low live
 ended_wrong (Entries.Entry h) last at low live k = refl
-ended_wrong Entries.End last at low live k = absurd (⊎_elim (λ x. omega arith) (λ x. omega arith) k)
+ended_wrong Entries.End last at low live k = absurd (k refl)
 ended_wrong (Entries.Refused x) last at low live k = refl
 
 pub ended_low : (r : EntryAt) (last at low live : ℕ) → r ≡ Entries.End → last < low

@@ -2,12 +2,10 @@
 -- Assumes nothing.
 use mathlib.Core.Path.{◌≡◌, refl, sym, ap, ◌∙◌, subst}
 use mathlib.Core.Bool.{Bool, true, false, cond}
-use mathlib.Core.List.{List, [], ◌∷◌}
+use mathlib.Core.List.{List}
 use Prim.Native.Nat.{ℕ, ◌+◌, ◌-◌, ◌<◌}
 use native.Mathlib.Omega.{arith}
 use lib.ListN.{get_or, take, drop, set}
-use types.Run.{OneOf}
-use denote.Enum.Declared.{tag_of}
 use Rattle.refusals.specs.Outcomes.{Outcome, accepted, then}
 use Rattle.registers.specs.Format.{Register}
 use Rattle.registers.specs.Reading.{ends, entry_stands, number_in, holder_in}
@@ -20,7 +18,6 @@ use Rattle.registers.specs.declared.SummaryOf.TheVariants as Summaries
 use Rattle.registers.specs.declared.EntryAt.TheVariants as Entries
 use Rattle.refusals.specs.declared.Refusal.TheVariants.{BadRegister}
 use Rattle.registers.specs.inside.Steps.{fingerprint, entry_fits, ended_by, table_size, count_at, marked}
-use Rattle.registers.specs.contracts.EntryAt as Answer
 use Rattle.registers.proofs.EntryHeads.{EntryStood, stands_true, ends_other, no_entry, record_part}
 use Rattle.registers.proofs.EntryHeads.{next_is}
 use Rattle.registers.proofs.Turns.{Passing, passing_ends, passing_broken, passing_refused, passing_more}
@@ -36,12 +33,12 @@ module _ {s : List ℕ} {last at low : ℕ} {table : List ℕ} (p : Passing s la
 
   -- No entry stands here.
   pub passing_ended : (holder alive : ℕ) → holder < table_size → alive ≡ count_at table holder → (r : EntryAt)
-      → r ≡ heading_at s at → OneOf (1 ∷ 2 ∷ []) (tag_of Answer.the_type r)
+      → r ≡ heading_at s at → ((h : Heading) → r ≡ Entries.Entry h → ⊥)
       → Summarised s holder (ended_by r last at low alive)
-  passing_ended holder alive small is r e keys = go (ends (drop at s)) refl r e
+  passing_ended holder alive small is r e other = go (ends (drop at s)) refl r e
     where
       stands : entry_stands (drop at s) ≡ false
-      stands = no_entry s at r e keys
+      stands = no_entry s at r e other
 
       broken : EntryAt
       broken = cond (entry_stands (drop at s)) (Entries.Entry (heading_of (drop at s) at)) (Entries.Refused BadRegister)

@@ -20,7 +20,7 @@ use Rattle.registers.specs.Format.{Entry, Register, first_size, register_most, l
 use Rattle.registers.specs.Format.{entries_bytes}
 use Rattle.registers.specs.Reading.{ends, entry_size, entry_stands, number_in, holder_in, record_in, stored_in}
 use Rattle.registers.specs.Reading.{entry_of, read_entry}
-use Rattle.registers.specs.Reading.{read_entries, not_register, live, last_number, may_follow, follow}
+use Rattle.registers.specs.Reading.{read_entries, not_register, last_number, may_follow, follow}
 use Rattle.registers.specs.Reading.{first_stands, judged_entries, read_register}
 use Rattle.registers.specs.Answers.{overview, overview_in, summary_of}
 use Rattle.registers.specs.declared.SummaryOf.TheVariants as Summaries

@@ -8,7 +8,7 @@ use fields::integers::{four_at, number_at};
 use fields::{Field, HEAD_SIZE};
 
 // The first field by its number, or none.
-#[derive(Drop)]
+#[derive(Clone, Copy)]
 pub enum First {
     Last(u32),
     Missing,

@@ -40,7 +40,7 @@ const TABLE: usize = 65536;
 const MARK: u8 = 8;
 
 // An entry by its number, its holder, the offset of its record and the offset behind it.
-#[derive(Drop)]
+#[derive(Clone, Copy)]
 pub struct Heading {
     pub number: u32,
     pub holder: u16,
@@ -49,7 +49,7 @@ pub struct Heading {
 }
 
 // The entry at an offset, the end of the list, or 12.
-#[derive(Drop)]
+#[derive(Clone, Copy)]
 pub enum EntryAt {
     Entry(Heading),
     End,
@@ -57,7 +57,7 @@ pub enum EntryAt {
 }
 
 // The last number given, where the entries end, and a holder's live entries.
-#[derive(Drop)]
+#[derive(Clone, Copy)]
 pub struct Overview {
     pub last: u32,
     pub end: usize,
@@ -65,14 +65,14 @@ pub struct Overview {
 }
 
 // An overview, or 12.
-#[derive(Drop)]
+#[derive(Clone, Copy)]
 pub enum SummaryOf {
     Register(Overview),
     Refused(Refusal),
 }
 
 // The number of the entry with a record.
-#[derive(Drop)]
+#[derive(Clone, Copy)]
 pub enum Search {
     Number(u32),
     Nothing,
@@ -110,7 +110,7 @@ pub fn find(register: &[u8], record: &[u8]) -> Search
         };
         let start = h.start;
         let next = h.next;
-        if check::same(&register[start..next], record) {
+        if &register[start..next] == record {
             return Search::Number(h.number);
         }
         at = next;
