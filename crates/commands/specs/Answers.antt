@@ -39,7 +39,7 @@ reasons =
     ∷ ascii "a misspelled token, or an index above the limit"
     ∷ ascii "exponents whose sizes sum above the limit"
     ∷ ascii "a reduced form with an index above the limit"
-    ∷ ascii "no well_formed register"
+    ∷ ascii "no well-formed register"
     ∷ ascii "a holder with four entries"
     ∷ ascii "an entry that does not fit the register"
     ∷ ascii "no tree within the bound, or no such node or leaf"
