@@ -11,7 +11,7 @@ mod writing;
 
 // Whether two words have one record, or the one's is the other's with its sides exchanged, or neither; or a refusal of
 // the first or of the second.
-#[derive(Drop)]
+#[derive(Clone, Copy)]
 pub enum Comparison {
     Same,
     Inverse,

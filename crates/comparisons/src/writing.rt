@@ -26,7 +26,7 @@ fn verdict(record1: &[u8], n: usize, record2: &[u8], m: usize) -> Comparison
     requires { Framed2 record1.now n record2.now m }
     ensures { decision_of result ≡ verdict_on (take n record1.now) (take m record2.now) }
 {
-    if check::same(&record1[..n], &record2[..m]) {
+    if record1[..n] == record2[..m] {
         return Comparison::Same;
     }
     if records::is_exchange(&record1[..n], &record2[..m]) {
