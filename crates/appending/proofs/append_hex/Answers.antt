@@ -35,13 +35,15 @@ pub digit-requires-in-loop-i : goal.digit-requires-in-loop-i
 digit-requires-in-loop-i c = omega arith
 
 pub overflow_add-out : goal.overflow_add-out
-overflow_add-out c = omega (arith, hex_room c.loop-i.invariant (omega arith) (omega arith), pass_length c.loop-i.invariant)
+overflow_add-out c =
+    omega (arith, hex_room c.loop-i.invariant (omega arith) (omega arith), pass_length c.loop-i.invariant)
 
 pub bounds-out-end-in-loop-i : goal.bounds-out-end-in-loop-i
 bounds-out-end-in-loop-i c = simp length-set (omega (arith, hex_room c.loop-i.invariant (omega arith) (omega arith)))
 
 pub overflow_add-end : goal.overflow_add-end
-overflow_add-end c = omega (arith, hex_room c.loop-i.invariant (omega arith) (omega arith), pass_length c.loop-i.invariant)
+overflow_add-end c =
+    omega (arith, hex_room c.loop-i.invariant (omega arith) (omega arith), pass_length c.loop-i.invariant)
 
 pub overflow_add-i : goal.overflow_add-i
 overflow_add-i c = omega arith

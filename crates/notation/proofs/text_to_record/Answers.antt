@@ -10,19 +10,22 @@ pub slice_bounds-indices-end : goal.slice_bounds-indices-end
 slice_bounds-indices-end c = omega (arith, (text_long c.read_text-tokens.ensures c.in-Read.powers c.in-Read.is).0)
 
 pub slice_bounds-record_powers-end : goal.slice_bounds-record_powers-end
-slice_bounds-record_powers-end c = sym (length-take-le _ _ (text_long c.read_text-tokens.ensures c.in-Read.powers c.in-Read.is).0)
+slice_bounds-record_powers-end c =
+    sym (length-take-le _ _ (text_long c.read_text-tokens.ensures c.in-Read.powers c.in-Read.is).0)
 
 pub slice_bounds-exponents-end : goal.slice_bounds-exponents-end
 slice_bounds-exponents-end c = omega (arith, (text_long c.read_text-tokens.ensures c.in-Read.powers c.in-Read.is).1)
 
 pub slice_bounds-record_powers-end-in-Read : goal.slice_bounds-record_powers-end-in-Read
-slice_bounds-record_powers-end-in-Read c = sym (length-take-le _ _ (text_long c.read_text-tokens.ensures c.in-Read.powers c.in-Read.is).1)
+slice_bounds-record_powers-end-in-Read c =
+    sym (length-take-le _ _ (text_long c.read_text-tokens.ensures c.in-Read.powers c.in-Read.is).1)
 
 pub slice_bounds-sides-end : goal.slice_bounds-sides-end
 slice_bounds-sides-end c = omega (arith, (text_long c.read_text-tokens.ensures c.in-Read.powers c.in-Read.is).2)
 
 pub slice_bounds-record_powers-end-in-Read-2 : goal.slice_bounds-record_powers-end-in-Read-2
-slice_bounds-record_powers-end-in-Read-2 c = sym (length-take-le _ _ (text_long c.read_text-tokens.ensures c.in-Read.powers c.in-Read.is).2)
+slice_bounds-record_powers-end-in-Read-2 c =
+    sym (length-take-le _ _ (text_long c.read_text-tokens.ensures c.in-Read.powers c.in-Read.is).2)
 
 pub record_powers-requires : goal.record_powers-requires
 record_powers-requires c = record {

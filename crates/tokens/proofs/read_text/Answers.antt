@@ -10,7 +10,8 @@ pub loop-at-init : goal.loop-at-init
 loop-at-init c = reading_start _ _ _ _
 
 pub returns-in_default : goal.returns-in_default
-returns-in_default c = reading_misspelled c.loop-at.invariant c.loop-at-test.true c.if-text-eq0.false c.in_default.ensures
+returns-in_default c =
+    reading_misspelled c.loop-at.invariant c.loop-at-test.true c.if-text-eq0.false c.in_default.ensures
 
 pub keep-powers-requires : goal.keep-powers-requires
 keep-powers-requires c =

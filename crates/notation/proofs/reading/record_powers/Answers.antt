@@ -4,4 +4,5 @@ use Rattle.notation.proofs.Products.{short_refused}
 use Rattle.notation.proofs.reading.record_powers.Goals as goal
 
 pub returns-then-record-sum : goal.returns-then-record-sum
-returns-then-record-sum c = short_refused _ _ c.refuse_short.result (omega (arith, c.requires.sum_value)) c.refuse_short.ensures
+returns-then-record-sum c =
+    short_refused _ _ c.refuse_short.result (omega (arith, c.requires.sum_value)) c.refuse_short.ensures

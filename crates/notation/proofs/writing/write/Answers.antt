@@ -20,7 +20,14 @@ pub write_falling-end-requires : goal.write_falling-end-requires
 write_falling-end-requires c =
     let both = both-length c.args.b.now c.args.a.now in record {
       a_len = c.requires.b_len.1;
-      a_in_bounds = omega (arith, both, c.write_rising-middle.ensures, c.write_rising-middle.auto, own_room c.requires.a_len_bound);
+      a_in_bounds =
+          omega (
+            arith,
+            both,
+            c.write_rising-middle.ensures,
+            c.write_rising-middle.auto,
+            own_room c.requires.a_len_bound,
+          );
     }
 
 pub place-requires : goal.place-requires

@@ -8,7 +8,9 @@ use Rattle.notation.specs.inside.Tables.{falling_in}
 use Rattle.notation.proofs.writing.write_falling.Given as goal
 
 abbrev pub invariant-loop-k : goal.invariant-loop-k
-invariant-loop-k l = (l.k ≤ suc limit) × Writing (further_text (falling_in 0 (take l.k l.a))) l.out l.at (further_text (falling_in 0 l.a)) l.initial.out l.start
+invariant-loop-k l =
+    (l.k ≤ suc limit) × Writing (further_text (falling_in 0 (take l.k l.a))) l.out l.at
+    (further_text (falling_in 0 l.a)) l.initial.out l.start
 
 abbrev pub decreases-loop-k : goal.decreases-loop-k
 decreases-loop-k l = l.k

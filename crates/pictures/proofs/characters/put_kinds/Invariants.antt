@@ -7,7 +7,9 @@ use Rattle.pictures.proofs.Pieces.{Left}
 use Rattle.pictures.proofs.characters.put_kinds.Given as goal
 
 abbrev pub invariant-loop-k : goal.invariant-loop-k
-invariant-loop-k l = Left (later_line (table_kinds l.table l.n l.k)) l.out l.end (later_line (table_kinds l.table l.n 1)) l.initial.out l.initial.end
+invariant-loop-k l =
+    Left (later_line (table_kinds l.table l.n l.k)) l.out l.end (later_line (table_kinds l.table l.n 1)) l.initial.out
+    l.initial.end
 
 abbrev pub decreases-loop-k : goal.decreases-loop-k
 decreases-loop-k l = l.n - l.k

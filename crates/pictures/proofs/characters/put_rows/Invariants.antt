@@ -6,7 +6,9 @@ use Rattle.pictures.proofs.Pieces.{Left}
 use Rattle.pictures.proofs.characters.put_rows.Given as goal
 
 abbrev pub invariant-loop-h : goal.invariant-loop-h
-invariant-loop-h l = (l.h ≤ l.n) × Left (rows_of (table_spans l.table l.n) l.n l.h) l.out l.end (rows_of (table_spans l.table l.n) l.n l.n) l.initial.out l.at
+invariant-loop-h l =
+    (l.h ≤ l.n) × Left (rows_of (table_spans l.table l.n) l.n l.h) l.out l.end
+    (rows_of (table_spans l.table l.n) l.n l.n) l.initial.out l.at
 
 abbrev pub decreases-loop-h : goal.decreases-loop-h
 decreases-loop-h l = l.h

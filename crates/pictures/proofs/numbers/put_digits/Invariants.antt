@@ -5,7 +5,9 @@ use Rattle.pictures.proofs.Pieces.{Left}
 use Rattle.pictures.proofs.numbers.put_digits.Given as goal
 
 abbrev pub invariant-loop-c : goal.invariant-loop-c
-invariant-loop-c l = Left (digits_from l.place l.c (2 * l.n + 1 - l.c)) l.out l.end (digits_from l.place 0 (2 * l.n + 1 - 0)) l.initial.out l.at
+invariant-loop-c l =
+    Left (digits_from l.place l.c (2 * l.n + 1 - l.c)) l.out l.end (digits_from l.place 0 (2 * l.n + 1 - 0))
+    l.initial.out l.at
 
 abbrev pub decreases-loop-c : goal.decreases-loop-c
 decreases-loop-c l = 2 * l.n + 1 - l.c

@@ -16,4 +16,5 @@ pub returns-else-at-end : goal.returns-else-at-end
 returns-else-at-end c = number_found c.requires c.read_digits-found.ensures c.if-end-at.false (λ e lt. omega arith)
 
 pub returns-else-text-at-eq48 : goal.returns-else-text-at-eq48
-returns-else-text-at-eq48 c = number_found c.requires c.read_digits-found.ensures c.if-end-at.false (λ e lt. c.if-text-at-eq48.false e)
+returns-else-text-at-eq48 c =
+    number_found c.requires c.read_digits-found.ensures c.if-end-at.false (λ e lt. c.if-text-at-eq48.false e)

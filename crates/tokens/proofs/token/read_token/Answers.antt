@@ -11,4 +11,5 @@ returns-then-e-gt-LIMIT c =
     c.if-e-gt-LIMIT.true
 
 pub returns : goal.returns
-returns c = token_found c.read_index-index.ensures c.if-k-gt-LIMIT.false c.read_exponent-exponent.ensures c.if-e-gt-LIMIT.false
+returns c =
+    token_found c.read_index-index.ensures c.if-k-gt-LIMIT.false c.read_exponent-exponent.ensures c.if-e-gt-LIMIT.false
