@@ -1,16 +1,13 @@
 -- A filing, by its steps: a refused word, a refused filing, and what is committed. Assumes nothing.
-use mathlib.Core.Path.{◌≡◌, sym, ap, ap₂, ◌∙◌, subst}
+use mathlib.Core.Path.{◌≡◌, refl, sym, ap, ap₂, ◌∙◌, subst}
 use mathlib.Core.Bool.{true}
-use mathlib.Core.List.{List, [], ◌∷◌}
-use mathlib.Core.Logic.{⊎_elim}
-use mathlib.Core.Option.{Option, none}
+use mathlib.Core.List.{List}
+use mathlib.Core.Option.{Option}
 use Prim.Native.Nat.{ℕ, suc, ◌+◌, ◌<◌}
 use native.Mathlib.Nat.{add-zero}
 use native.Mathlib.Omega.{arith}
 use lib.ListN.{length, take}
 use lib.Seq.{sets, length-sets}
-use types.Run.{OneOf}
-use denote.Enum.Declared.{tag_of}
 use Rattle.group.specs.Letters.{Word}
 use Rattle.group.specs.Forms.{Form, b_side, a_side}
 use Rattle.group.specs.Products.{form_of}
@@ -49,7 +46,6 @@ use Rattle.updates.specs.Entering.{entered_word, entered_in, left_by, register_a
 use Rattle.updates.specs.Entering.{Answer, EnteredWord}
 use Rattle.updates.specs.inside.Steps.{answered_form, DecidedAs, Decided}
 use Rattle.updates.specs.inside.Steps.{entry_length, new_stored, Committable, Committed}
-use Rattle.updates.specs.contracts.deciding.Decision as Choice
 use Rattle.updates.proofs.Fitting.{grown-length, entry_length_lem, room_in}
 use Rattle.updates.proofs.OnlyNew.{only_new}
 use Rattle.updates.proofs.Charging.{live_one}
@@ -109,8 +105,8 @@ record Filed (f : Form) (h : ℕ) (s s' : List ℕ) (r : Entered) : Type 0 where
 
 -- What was committed is what was decided.
 filed_as : (f : Form) (h : ℕ) (s s' bytes : List ℕ) (r : Entered) → Bytes s → bytes ≡ encode f → (d : Decision)
-    → OneOf (0 ∷ 1 ∷ []) (tag_of Choice.the_type d) → DecidedAs f h s d → Committed d bytes s s' r → Filed f h s s' r
-filed_as f h s s' bytes r b same (New p) some-kind i c =
+    → ((q : Refusal) → d ≡ Refused q → ⊥) → DecidedAs f h s d → Committed d bytes s s' r → Filed f h s s' r
+filed_as f h s s' bytes r b same (New p) not-refused i c =
     let q = i.register in
     let place : p ≡ place_in q h =
     ap (λ (n : ℕ). record { number = n; end = p.end; account = p.account }) i.number
@@ -131,7 +127,7 @@ filed_as f h s s' bytes r b same (New p) some-kind i c =
           ∙ ap₂ (λ (x : Place) (l : List ℕ). new_stored x l s) place same
           ∙ stored_new s q h f (register_written s q b i.reads);
     }
-filed_as f h s s' bytes r b same (Present k a) some-kind i c =
+filed_as f h s s' bytes r b same (Present k a) not-refused i c =
     let q = i.register in
     record {
       found = kept q k;
@@ -143,8 +139,7 @@ filed_as f h s s' bytes r b same (Present k a) some-kind i c =
           ∙ ap (λ (n : ℕ). answer (present k) (record { holder = h; live = n })) (add-zero (live h q.entries));
       register = c.0;
     }
-filed_as f h s s' bytes r b same (Refused q) some-kind i c =
-    absurd (⊎_elim (λ e. omega arith) (λ e. omega arith) some-kind)
+filed_as f h s s' bytes r b same (Refused q) not-refused i c = absurd (not-refused q refl)
 
 -- Where a filing is refused nothing that was lent is altered.
 module _ (word : List ℕ) (m : Memory) (h : ℕ) (s : List ℕ) (two : h < 65536) (bytes : Bytes s) where
@@ -202,12 +197,12 @@ module _ (word : List ℕ) (m : Memory) (h : ℕ) (s : List ℕ) (two : h < 6553
             (ap frames own_record ∙ frames-encode (form_of f.letters)) counted_record d decided_so
 
         -- What is committed is the filing.
-        pub entered_so : {s' : List ℕ} {r : Entered} → OneOf (0 ∷ 1 ∷ []) (tag_of Choice.the_type d)
+        pub entered_so : {s' : List ℕ} {r : Entered} → ((q : Refusal) → d ≡ Refused q → ⊥)
             → Committed d (smaller_record (take n exit.buffer)) s s' r → EnteredWord word m exit h s s' r
-        entered_so {s'} {r} some-kind done =
+        entered_so {s'} {r} not-refused done =
             let form = stored_form f.letters in
             let front = smaller_record (take n exit.buffer) in
-            let filed = filed_as form h s s' front r bytes counted_record d some-kind decided_so done in
+            let filed = filed_as form h s s' front r bytes counted_record d not-refused decided_so done in
             let so : entered_in word m s h ≡ accepted filed.found = entered_form ∙ filed.answers in
             record {
               result = filed.result ∙ sym (ap (λ (o : Outcome Found). answer_of h o) so);

@@ -14,7 +14,7 @@ use words::SMALL;
 const NUMBER_MOST: u32 = 4294967295;
 
 // A new entry: its number, where it goes, and its holder's account before it.
-#[derive(Drop)]
+#[derive(Clone, Copy)]
 pub struct Place {
     pub number: u32,
     pub end: usize,
@@ -22,7 +22,7 @@ pub struct Place {
 }
 
 // A new entry, the entry that holds the element, or a refusal.
-#[derive(Drop)]
+#[derive(Clone, Copy)]
 pub enum Decision {
     New(Place),
     Present(u32, Account),

@@ -16,7 +16,7 @@ mod writing;
 use deciding::Decision;
 
 // A holder's account: its number and its live entries.
-#[derive(Drop)]
+#[derive(Clone, Copy)]
 pub struct Account {
     pub holder: u16,
     pub live: u64,
@@ -24,7 +24,7 @@ pub struct Account {
 
 // The number of a new entry, or of the one that holds the element or its inverse, with the account then of the holder
 // who files.
-#[derive(Drop)]
+#[derive(Clone, Copy)]
 pub enum Entered {
     New(u32, Account),
     Present(u32, Account),
@@ -32,7 +32,7 @@ pub enum Entered {
 }
 
 // A holder's account, or 12.
-#[derive(Drop)]
+#[derive(Clone, Copy)]
 pub enum AccountOf {
     Found(Account),
     Refused(Refusal),
