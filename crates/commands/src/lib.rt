@@ -29,14 +29,14 @@ pub const ANSWER: usize = ROOM + 64;
 pub const TEXT: usize = 131071;
 
 // The bytes of the text at the front of the buffer, and whether something was refused.
-#[derive(Drop)]
+#[derive(Clone, Copy)]
 pub struct Answer {
     pub bytes: usize,
     pub refused: bool,
 }
 
 // What is asked of a record.
-#[derive(Drop)]
+#[derive(Clone, Copy)]
 pub enum Question {
     Check,
     Word,
