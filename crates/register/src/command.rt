@@ -1,5 +1,8 @@
 // The words of the command line.
+ghost use Rattle.std.specs.Prelude.{◌≤◌, length};
+
 use crate::text::tell;
+use std::env::{Env, FillError};
 
 // The highest number of a command line; one above it stands for what is no number.
 const HIGHEST: u64 = 65536;
@@ -16,11 +19,41 @@ pub fn usage() {
     );
 }
 
-// Whether the command has a name.
-pub fn is(name: &[u8]) -> bool {
+// Whether there is a word i.
+fn is_there<E: Env>(words: &E, i: usize) -> bool {
     let mut word = [0u8; 8];
-    let n = os::arg(2, &mut word);
-    check::same(&word[..n], name)
+    match words.arg(i, &mut word) {
+        Ok(_) => true,
+        Err(FillError::TooLong) => true,
+        Err(FillError::NotPresent) => false,
+    }
+}
+
+// How many words there are, the program's name among them.
+pub fn count<E: Env>(words: &E) -> usize {
+    for i in 0..usize::MAX {
+        if !is_there(words, i) {
+            return i;
+        }
+    }
+    usize::MAX
+}
+
+// Puts word i at the front of a buffer: how many bytes it has, 0 where there is none or where it does not fit.
+pub fn put<E: Env>(words: &E, i: usize, out: &mut [u8]) -> usize
+    ensures { result ≤ length out.new }
+{
+    match words.arg(i, out) {
+        Ok(n) => n,
+        Err(_) => 0,
+    }
+}
+
+// Whether the command has a name.
+pub fn is<E: Env>(words: &E, name: &[u8]) -> bool {
+    let mut word = [0u8; 8];
+    let n = put(words, 2, &mut word);
+    &word[..n] == name
 }
 
 // One more digit behind a number.
@@ -43,9 +76,9 @@ fn value(digits: &[u8]) -> u64 {
 }
 
 // The argument of the command as a number.
-pub fn number() -> u64 {
+pub fn number<E: Env>(words: &E) -> u64 {
     let mut digits = [0u8; 16];
-    let n = os::arg(3, &mut digits);
+    let n = put(words, 3, &mut digits);
     if n == 0 {
         return HIGHEST + 1;
     }

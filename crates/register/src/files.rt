@@ -1,12 +1,20 @@
 // The file of a register: read whole, and replaced whole or not at all. A draft, FILE.new, is made first, which no
 // other run can make then; it is written, synced and renamed over the file, or removed.
-use crate::parts;
-use crate::text::tell;
-use libc::STDERR_FILENO;
-use registers::MOST_BYTES;
+ghost use Rattle.std.specs.Prelude.{◌≤◌, length};
 
-// The bytes of the longest name of a draft.
-pub const DRAFT: usize = libc::PATH_MAX + 4;
+use crate::parts;
+use crate::text::{STDERR, fail, tell};
+use registers::MOST_BYTES;
+use std::fs::{File, OpenOptions};
+use std::io::{Error, ErrorKind, Read, Write};
+use std::os::fd::AsRawFd;
+use std::rt::Files;
+use std::{fs, io, str};
+
+// The bytes of the longest name of a file, and of that of a draft.
+pub const NAME: usize = 4096;
+
+pub const DRAFT: usize = NAME + 4;
 
 // The most bytes that are read of a file: one more than a register has.
 pub const ROOM: usize = MOST_BYTES + 1;
@@ -29,6 +37,35 @@ pub fn name_in(name: &[u8; DRAFT], n: usize) -> &[u8] {
     parts::front(name, n)
 }
 
+// A name as text; no file is opened by other bytes.
+fn path(name: &[u8]) -> io::Result<&str> {
+    match str::from_utf8(name) {
+        Ok(text) => Ok(text),
+        Err(_) => Err(Error::from(ErrorKind::InvalidFilename)),
+    }
+}
+
+// Opens a file to be read.
+pub fn open_read<R: Files<File = File>>(rt: &R, file: &[u8]) -> io::Result<File> {
+    File::open(rt, path(file)?)
+}
+
+// Opens a file to be read, which may also be written.
+pub fn open_update<R: Files<File = File>>(rt: &R, file: &[u8]) -> io::Result<File> {
+    OpenOptions::new()
+        .read(true)
+        .write(true)
+        .open(rt, path(file)?)
+}
+
+// Makes a file to be written, which has to be new.
+fn create<R: Files<File = File>>(rt: &R, file: &[u8]) -> io::Result<File> {
+    OpenOptions::new()
+        .write(true)
+        .create_new(true)
+        .open(rt, path(file)?)
+}
+
 // Says that there is a draft.
 fn tell_taken(file: &[u8]) {
     tell(file);
@@ -38,93 +75,136 @@ fn tell_taken(file: &[u8]) {
     tell(b"If no other run is under way, remove it and run again.\n");
 }
 
+// Removes a file.
+fn unlink<R: Files>(rt: &R, file: &[u8]) -> io::Result<()> {
+    fs::remove_file(rt, path(file)?)
+}
+
 // Removes a draft that this run made; says so where that fails.
-fn remove(draft: &[u8]) {
-    if os::unlink(draft) < 0 {
-        os::fail(draft);
+fn remove<R: Files>(rt: &R, draft: &[u8]) {
+    if let Err(e) = unlink(rt, draft) {
+        fail(draft, e);
     }
 }
 
 // Closes and removes a draft.
-pub fn abandon(fd: i32, draft: &[u8]) {
-    libc::close(fd);
-    remove(draft);
+pub fn abandon<R: Files>(rt: &R, opened: File, draft: &[u8]) {
+    drop(opened);
+    remove(rt, draft);
 }
 
-// Says why there is no draft of this run, or no use for one that has the number of a standard stream.
-fn refuse(fd: i32, file: &[u8], draft: &[u8]) {
-    if fd >= 0 {
-        abandon(fd, draft);
-        tell(b"register: standard input, output and error have to be open\n");
-    } else if os::errno() == libc::EEXIST {
+// Says why there is no draft of this run.
+fn refuse(e: Error, file: &[u8], draft: &[u8]) {
+    if e.kind() == ErrorKind::AlreadyExists {
         tell_taken(file);
     } else {
-        os::fail(draft);
+        fail(draft, e);
     }
 }
 
-// Makes the draft, which has to be new; answers its descriptor, or -1 and says why.
-pub fn claim(file: &[u8], draft: &[u8]) -> i32 {
-    let fd = os::create(draft);
-    if fd > STDERR_FILENO {
-        return fd;
+// A draft that was made, unless it has the number of a standard stream: then there is no use for it, which is said.
+fn admit<R: Files>(rt: &R, opened: File, draft: &[u8]) -> Option<File> {
+    if opened.as_raw_fd() > STDERR {
+        return Some(opened);
     }
-    refuse(fd, file, draft);
-    -1
+    abandon(rt, opened, draft);
+    tell(b"register: standard input, output and error have to be open\n");
+    None
 }
 
-// Writes and syncs a draft; answers whether both went well.
-fn write(fd: i32, bytes: &[u8]) -> bool {
-    if io::write_all(fd, bytes) {
-        return libc::fsync(fd) == 0;
+// Makes the draft, which has to be new; answers it, or nothing and says why.
+pub fn claim<R: Files<File = File>>(rt: &R, file: &[u8], draft: &[u8]) -> Option<File> {
+    match create(rt, draft) {
+        Ok(opened) => admit(rt, opened, draft),
+        Err(e) => {
+            refuse(e, file, draft);
+            None
+        }
     }
-    false
+}
+
+// Writes and syncs a draft.
+fn write(opened: &mut File, bytes: &[u8]) -> io::Result<()> {
+    opened.write_all(bytes)?;
+    opened.sync_all()
+}
+
+// Gives a draft the name of its file.
+fn give_name<R: Files>(rt: &R, file: &[u8], draft: &[u8]) -> io::Result<()> {
+    fs::rename(rt, path(draft)?, path(file)?)
 }
 
 // Gives a draft the name of its file; answers whether that is done.
-fn rename(file: &[u8], draft: &[u8]) -> bool {
-    let done = os::rename(draft, file) == 0;
-    if !done {
-        os::fail(file);
-        remove(draft);
+fn rename<R: Files>(rt: &R, file: &[u8], draft: &[u8]) -> bool {
+    match give_name(rt, file, draft) {
+        Ok(()) => true,
+        Err(e) => {
+            fail(file, e);
+            remove(rt, draft);
+            false
+        }
+    }
+}
+
+// Puts bytes in the place of a file by way of its draft; answers whether that is done. Else the file is as it was.
+pub fn replace<R: Files>(rt: &R, opened: File, file: &[u8], draft: &[u8], bytes: &[u8]) -> bool {
+    let mut opened = opened;
+    match write(&mut opened, bytes) {
+        Ok(()) => {
+            drop(opened);
+            rename(rt, file, draft)
+        }
+        Err(e) => {
+            fail(draft, e);
+            abandon(rt, opened, draft);
+            false
+        }
+    }
+}
+
+// Fills a buffer, or puts the bytes there are up to the end of a file or to a failure: how many.
+fn read_full(opened: &mut File, room: &mut [u8]) -> usize {
+    let mut done = 0;
+    while done < room.len() {
+        match opened.read(&mut room[done..]) {
+            Ok(n) if n > 0 => done += n,
+            _ => return done,
+        }
     }
     done
 }
 
-// Puts bytes in the place of a file by way of its draft; answers whether that is done. Else the file is as it was.
-pub fn replace(fd: i32, file: &[u8], draft: &[u8], bytes: &[u8]) -> bool {
-    if !write(fd, bytes) {
-        os::fail(draft);
-        abandon(fd, draft);
-        return false;
-    }
-    libc::close(fd);
-    rename(file, draft)
-}
-
 // Whether a file has come to its end; says so if it cannot be read.
-fn is_end(fd: i32, file: &[u8]) -> bool {
+fn is_end(opened: &mut File, file: &[u8]) -> bool {
     let mut next = [0u8; 1];
-    let got = libc::read(fd, &mut next);
-    if got < 0 {
-        os::fail(file);
+    match opened.read(&mut next) {
+        Ok(n) => n == 0,
+        Err(e) => {
+            fail(file, e);
+            false
+        }
     }
-    got == 0
 }
 
-// Reads a file that was opened to its end, or as far as there is room; says so if it cannot be opened or read.
-pub fn load(fd: i32, file: &[u8], room: &mut [u8; ROOM]) -> Loaded {
-    if fd < 0 {
-        os::fail(file);
-        return Loaded::Failed;
-    }
-    let n = io::read_full(fd, room);
-    let whole = n == ROOM || is_end(fd, file);
-    libc::close(fd);
-    if whole {
+// Reads a file to its end, or as far as there is room; says so if it cannot be read.
+fn read_whole(opened: File, file: &[u8], room: &mut [u8; ROOM]) -> Loaded {
+    let mut opened = opened;
+    let n = read_full(&mut opened, room);
+    if n == ROOM || is_end(&mut opened, file) {
         return Loaded::Size(n);
     }
     Loaded::Failed
+}
+
+// Reads a file that was opened to its end, or as far as there is room; says so if it cannot be opened or read.
+pub fn load(opened: io::Result<File>, file: &[u8], room: &mut [u8; ROOM]) -> Loaded {
+    match opened {
+        Ok(opened) => read_whole(opened, file, room),
+        Err(e) => {
+            fail(file, e);
+            Loaded::Failed
+        }
+    }
 }
 
 // What was read of a file.
@@ -132,18 +212,25 @@ pub fn contents(room: &[u8; ROOM], n: usize) -> &[u8] {
     parts::front(room, n)
 }
 
+// Says that something has the name of a file.
+fn tell_there(file: &[u8]) {
+    tell(file);
+    tell(b" exists. Nothing is altered.\n");
+}
+
 // Whether nothing has the name of a file; says so if something has, or if that cannot be told.
-pub fn is_free(file: &[u8]) -> bool {
-    let fd = os::open_read(file);
-    if fd >= 0 {
-        libc::close(fd);
-        tell(file);
-        tell(b" exists. Nothing is altered.\n");
-        return false;
+pub fn is_free<R: Files<File = File>>(rt: &R, file: &[u8]) -> bool {
+    match open_read(rt, file) {
+        Ok(_) => {
+            tell_there(file);
+            false
+        }
+        Err(e) => {
+            if e.kind() == ErrorKind::NotFound {
+                return true;
+            }
+            fail(file, e);
+            false
+        }
     }
-    let free = os::errno() == libc::ENOENT;
-    if !free {
-        os::fail(file);
-    }
-    free
 }

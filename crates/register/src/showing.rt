@@ -1,15 +1,17 @@
 // What a file holds, for people: its entries, or how many there are and how much room is left.
 use crate::files::{Loaded, ROOM};
+use crate::text::{STDERR, STDOUT};
 use crate::{faults, files, parts, text};
-use libc::{STDERR_FILENO, STDOUT_FILENO};
 use registers::{EntryAt, FIRST_SIZE, Heading, Overview, SummaryOf};
+use std::fs::File;
+use std::rt::Files;
 
 // An entry: number, holder, record.
 fn show_entry(register: &[u8], h: Heading) -> bool {
     text::number(h.number as u64, b" ");
     text::number(h.holder as u64, b" ");
     text::hex(parts::between(register, h.start, h.next));
-    io::write_all(STDOUT_FILENO, b"\n")
+    io::write_all(STDOUT, b"\n")
 }
 
 // All entries, in order. An entry has at least a byte, so that the turns suffice.
@@ -34,14 +36,14 @@ fn list_register(register: &[u8]) {
     if faults::is_sound(register) {
         text::confirm(show_entries(register));
     } else {
-        faults::describe(STDERR_FILENO, register);
+        faults::describe(STDERR, register);
     }
 }
 
 // The entries of the register of a file.
-pub fn list(file: &[u8]) {
+pub fn list<R: Files<File = File>>(rt: &R, file: &[u8]) {
     let mut room = [0u8; ROOM];
-    let loaded = files::load(os::open_read(file), file, &mut room);
+    let loaded = files::load(files::open_read(rt, file), file, &mut room);
     if let Loaded::Size(n) = loaded {
         list_register(files::contents(&room, n));
     }
@@ -79,14 +81,14 @@ fn check_register(register: &[u8]) {
     if let SummaryOf::Register(o) = overview {
         text::confirm(show_overview(register, o));
     } else {
-        faults::describe(STDOUT_FILENO, register);
+        faults::describe(STDOUT, register);
     }
 }
 
 // How full the register of a file is.
-pub fn check(file: &[u8]) {
+pub fn check<R: Files<File = File>>(rt: &R, file: &[u8]) {
     let mut room = [0u8; ROOM];
-    let loaded = files::load(os::open_read(file), file, &mut room);
+    let loaded = files::load(files::open_read(rt, file), file, &mut room);
     if let Loaded::Size(n) = loaded {
         check_register(files::contents(&room, n));
     }

@@ -1,10 +1,11 @@
-// The lines of standard input, entered into a register in memory, part by part.
+// The lines of an input, entered into a register in memory, part by part.
 use crate::answers::{ANSWER, OUTPUT};
 use crate::files::ROOM;
+use crate::text::STDOUT;
 use crate::{answers, parts, text};
-use libc::{STDIN_FILENO, STDOUT_FILENO};
 use records::BASE_SIZE;
 use refusals::LIMIT;
+use std::io::Read;
 use updates::Entered;
 
 // The bytes of the input that are read at once.
@@ -17,7 +18,7 @@ const MOST_HELD: usize = OUTPUT - ANSWER * (PART + 1);
 pub const LINE: usize = LIMIT + 1;
 
 // The holder for whom words are entered, and the bytes of the register at the front of the room that is lent.
-#[derive(Drop)]
+#[derive(Clone, Copy)]
 pub struct Target {
     pub holder: u16,
     pub size: usize,
@@ -25,7 +26,7 @@ pub struct Target {
 
 // Behind a part of the input: whether there may be more and all went well, the number of the line that has begun and
 // how many of its bytes are held, whether an entry is new, and how many bytes of answers are held.
-#[derive(Drop)]
+#[derive(Clone, Copy)]
 pub struct Turn {
     pub more: bool,
     pub well: bool,
@@ -125,21 +126,20 @@ fn spill(out: &[u8; OUTPUT], t: Turn) -> Turn {
     if t.used <= MOST_HELD {
         return t;
     }
-    let well = io::write_all(STDOUT_FILENO, parts::front(out, t.used));
+    let well = io::write_all(STDOUT, parts::front(out, t.used));
     text::confirm(well);
     marked(t, well, well, 0)
 }
 
-// The end of the input, or an input that cannot be read.
-fn end(t: Turn, got: isize) -> Turn {
-    if got < 0 {
-        text::tell(b"register: the input cannot be read\n");
-    }
-    marked(t, false, got == 0, t.used)
+// An input that cannot be read.
+fn failed(t: Turn) -> Turn {
+    text::tell(b"register: the input cannot be read\n");
+    marked(t, false, false, t.used)
 }
 
 // One part of the input.
-fn take_part(
+fn take_part<R: Read>(
+    input: &mut R,
     line: &mut [u8; LINE],
     target: Target,
     room: &mut [u8; ROOM],
@@ -147,18 +147,20 @@ fn take_part(
     t: Turn,
 ) -> Turn {
     let mut part = [0u8; PART];
-    let got = libc::read(STDIN_FILENO, &mut part);
-    if got <= 0 {
-        return end(t, got);
+    let Ok(n) = input.read(&mut part) else {
+        return failed(t);
+    };
+    if n == 0 {
+        return marked(t, false, true, t.used);
     }
-    let n = io::count(got, &part);
     let taken = take_lines(&part[..n], line, target, room, out, t);
     spill(out, taken)
 }
 
 // All parts of the input, from line 1. A proved loop has to end, and nothing says that an input does: the loop counts
 // its turns down from a number that no run uses up.
-fn take_parts(
+fn take_parts<R: Read>(
+    input: &mut R,
     line: &mut [u8; LINE],
     target: Target,
     room: &mut [u8; ROOM],
@@ -175,15 +177,20 @@ fn take_parts(
     let mut turns = u64::MAX;
     while turns > 0 && t.more {
         turns -= 1;
-        t = take_part(line, target, room, out, t);
+        t = take_part(input, line, target, room, out, t);
     }
     t
 }
 
 // All parts of the input, and a line that has no end.
-pub fn take_all(target: Target, room: &mut [u8; ROOM], out: &mut [u8; OUTPUT]) -> Turn {
+pub fn take_all<R: Read>(
+    input: &mut R,
+    target: Target,
+    room: &mut [u8; ROOM],
+    out: &mut [u8; OUTPUT],
+) -> Turn {
     let mut line = [0u8; LINE];
-    let t = take_parts(&mut line, target, room, out);
+    let t = take_parts(input, &mut line, target, room, out);
     if t.held == 0 {
         return t;
     }
