@@ -7,7 +7,6 @@ use Prim.Native.Nat.{ℕ, ◌≤◌}
 use native.Mathlib.Omega.{arith}
 use borrow.Author.Tests.{lt-ltb, le-ltb}
 use lib.ListN.{length}
-use Rattle.refusals.specs.Outcomes.{refused}
 use Rattle.appending.specs.inside.Appending.{beyond, Appended}
 use Rattle.appending.proofs.Appending.{appended_front, appended_over}
 use Rattle.commands.specs.declared.Answer.{Answer}

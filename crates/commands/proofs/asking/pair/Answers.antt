@@ -1,8 +1,7 @@
 -- `pair` meets its contract: the number and the shapes, or the refusal. Assumes nothing.
 use borrow.Author.Rules.{rules}
-use native.Mathlib.Omega.{arith}
 use Rattle.commands.proofs.Closing.{says_same}
-use Rattle.commands.proofs.PairAnswers.{shapes_fit, pair_said, pair_denied}
+use Rattle.commands.proofs.PairAnswers.{pair_said, pair_denied}
 use Rattle.commands.proofs.asking.pair.Goals as goal
 
 pub returns-in-Number : goal.returns-in-Number
