@@ -4,7 +4,7 @@ use updates::Entered;
 
 // New, old or refused, by its first letter; the entry's number, with the holder's number and live entries, or the
 // refusal's number and its place.
-#[derive(Drop)]
+#[derive(Clone, Copy)]
 pub struct Told {
     pub kind: u8,
     pub number: u64,

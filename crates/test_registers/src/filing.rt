@@ -12,7 +12,7 @@ use std::num::{wrapping_add_u64, wrapping_add_usize};
 pub const SIZE: usize = 1000;
 
 // The entries in the list, and the bytes of a register with them; the filings, and how many the list foretold.
-#[derive(Drop)]
+#[derive(Clone, Copy)]
 pub struct State {
     pub entries: usize,
     pub used: usize,
@@ -21,7 +21,7 @@ pub struct State {
 }
 
 // How the run stands after a filing, and what the list said of it.
-#[derive(Drop)]
+#[derive(Clone, Copy)]
 pub struct Filed {
     pub state: State,
     pub told: Told,
@@ -92,7 +92,7 @@ fn stands(told: Told, at: usize, record: &[u8], register: &[u8]) -> bool {
         return true;
     }
     let behind = parts::behind(register, wrapping_add_usize(at, 9));
-    check::same(parts::front(behind, record.len()), record)
+    parts::front(behind, record.len()) == record
 }
 
 // The first n bytes of a record buffer.

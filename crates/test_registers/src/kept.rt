@@ -24,7 +24,7 @@ fn record(list: &[u8], i: usize) -> &[u8] {
 pub fn find(list: &[u8], count: usize, bytes: &[u8]) -> usize {
     let mut i = 0;
     while i < count {
-        if check::same(record(list, i), bytes) {
+        if record(list, i) == bytes {
             return i + 1;
         }
         i += 1;

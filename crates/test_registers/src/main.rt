@@ -6,7 +6,6 @@
 
 use cases::counts::Counts;
 use cases::{counts, fields, parts};
-use libc::STDIN_FILENO;
 
 mod answers;
 mod calling;
@@ -17,6 +16,9 @@ mod kept;
 mod longest;
 mod odd;
 mod sides;
+
+// The number of standard input.
+const STDIN: i32 = 0;
 
 // The most bytes of all cases.
 const INPUT: usize = 131072;
@@ -52,7 +54,7 @@ fn lines(text: &[u8], kind: u8) -> Counts {
 
 // All cases, kind by kind.
 fn run(input: &mut [u8; INPUT]) {
-    let n = io::read_full(STDIN_FILENO, input);
+    let n = io::read_full(STDIN, input);
     let text = parts::front(input, n);
     counts::print(lines(text, b'f'), b"vectors");
     counts::print(lines(text, b't'), b"traps");

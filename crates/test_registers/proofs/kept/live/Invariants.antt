@@ -1,0 +1,6 @@
+-- `live` is safe. Assumes nothing.
+use Rattle.std.proofs.Common.{◌-◌}
+use Rattle.test_registers.proofs.kept.live.Given as goal
+
+abbrev pub decreases-loop-i : goal.decreases-loop-i
+decreases-loop-i l = l.count - l.i
