@@ -65,8 +65,10 @@ power_from_lem s (suc e) t ts =
     ∙ ap (times_power s 0 e) (next_levels s t ts)
     ∙ power_turned s 0 e (bush_levels 0 t (forest_levels ts))
 
-power_on_lem : (s : Side) (e : ℕ) (ts : List Bush) → forest_levels (power_on s e ts) ≡ times_power s 0 e (forest_levels ts)
-power_on_lem s e ts = power_from_lem s e (first_bush ts) (later_bushes ts) ∙ ap (times_power s 0 e) (sym (forest_opened ts))
+power_on_lem : (s : Side) (e : ℕ) (ts : List Bush)
+    → forest_levels (power_on s e ts) ≡ times_power s 0 e (forest_levels ts)
+power_on_lem s e ts =
+    power_from_lem s e (first_bush ts) (later_bushes ts) ∙ ap (times_power s 0 e) (sym (forest_opened ts))
 
 -- The form of a cursor's row.
 abbrev pub cursor_levels : Cursor → Form

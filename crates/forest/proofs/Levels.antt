@@ -68,10 +68,12 @@ pub bush_part : (t : Bush) (f : Form) → Trimmed f
     → times_generator a_side 0 (bush_levels 0 t f) ≡ bush_levels 0 (left_part t) (bush_levels 0 (right_part t) f)
 bush_part (tip n) f h = times_x0_lem a_side (reduce_level 0 n f) ∙ x0_opens n f
 bush_part (fork x y) f h =
-    times_x0_lem a_side (bush_levels 1 x (bush_levels 0 y f)) ∙ bush_lowered 0 x (bush_levels 0 y f) (bush_trimmed 0 y f h)
+    times_x0_lem a_side (bush_levels 1 x (bush_levels 0 y f))
+    ∙ bush_lowered 0 x (bush_levels 0 y f) (bush_trimmed 0 y f h)
 
 -- Tips behind the row need not be stored.
-pub forest_opened : (ts : List Bush) → forest_levels ts ≡ bush_levels 0 (first_bush ts) (forest_levels (later_bushes ts))
+pub forest_opened : (ts : List Bush)
+    → forest_levels ts ≡ bush_levels 0 (first_bush ts) (forest_levels (later_bushes ts))
 forest_opened [] = refl
 forest_opened (t ∷ ts) = refl
 

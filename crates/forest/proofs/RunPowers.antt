@@ -172,7 +172,8 @@ module _ {ks es ss lefts rights before stack : List ℕ} {used front height i : 
 
     pub powers_more : {lefts' rights' stack'' : List ℕ} {used' height' : ℕ} → length lefts' ≡ length lefts
         → length rights' ≡ length rights → length stack'' ≡ length stack'
-        → PowerPut (side_of (get_or ss j 0)) lefts rights stack' used low (get_or es j 0) lefts' rights' stack'' used' height'
+        → PowerPut (side_of (get_or ss j 0)) lefts rights stack' used low (get_or es j 0) lefts' rights' stack'' used'
+        height'
         → RunningPowers ks es ss lefts' rights' before' stack'' used' k height' j
     powers_more {lefts'} {rights'} {stack''} {used'} {height'} el er es' p = record {
       ready = record {
@@ -194,6 +195,7 @@ module _ {ks es ss lefts rights before stack : List ℕ} {used front height i : 
           subst (λ (ps : List SignedPower). Stood lefts' rights' used' before' stack'' k height' (cursor_of ps))
           (sym read)
           (power_stood lefts rights used before' stack' k low (sizes_from ks es ss i)
-          (side_of (get_or ss j 0)) (get_or es j 0) (seek k (cursor_from ks es ss i)) lefts' rights' stack'' used' height'
+          (side_of (get_or ss j 0)) (get_or es j 0) (seek k (cursor_from ks es ss i)) lefts' rights' stack'' used'
+          height'
           (omega (arith, next.sizes)) sought p here);
     }

@@ -42,7 +42,8 @@ module _ (last : ℕ) (lefts rights : List ℕ) where
   stack_kept used (t ∷ ts) stack at v height p (top, e, h, s) = (
     top,
     e,
-    subst (Stands last lefts rights used t) (sym (read_below ℕ stack at top v 0 (get_or stack top 0) (omega arith) refl))
+    subst (Stands last lefts rights used t)
+        (sym (read_below ℕ stack at top v 0 (get_or stack top 0) (omega arith) refl))
         h,
     stack_kept used ts stack at v top (omega arith) s,
   )
@@ -83,7 +84,8 @@ push_none stack height bush e z = record { high = omega arith; puts = puts }
   where
     puts : (last : ℕ) (lefts rights : List ℕ) (used : ℕ) (t : Bush) (ts : List Bush)
         → Stands last lefts rights used t bush
-        → StackStands last lefts rights used ts stack height → StackStands last lefts rights used (put_bush t ts) stack 0
+        → StackStands last lefts rights used ts stack height
+        → StackStands last lefts rights used (put_bush t ts) stack 0
     puts last lefts rights used (tip zero) [] h s = refl
     puts last lefts rights used (tip zero) (t ∷ ts) h s = absurd (omega (arith, s.1))
     puts last lefts rights used (tip (suc n)) ts h s = absurd (omega (arith, h.0))

@@ -83,7 +83,8 @@ pub fits_for_lem : (last : ℕ) (word lefts rights stack : List ℕ) → last_ti
     → Fits word lefts rights stack
 fits_for_lem last word lefts rights stack h l r s =
     sym
-    (all_fit (last_tip_value (length word)) (last_tip_value (length word)) (length lefts) (length rights) (length stack) refl
+    (all_fit (last_tip_value (length word)) (last_tip_value (length word)) (length lefts) (length rights) (length stack)
+    refl
     (omega arith) (omega arith) (omega arith))
 
 -- More letters do not need less.
@@ -103,5 +104,6 @@ fits_shorter word longer lefts rights stack lefts' rights' stack' short el er es
     let (l, f₁) = not_below (length lefts) (cells_for last) _ f in
     let (r, f₂) = not_below (length rights) (cells_for last) _ f₁ in
     let (s, f₃) = not_below (length stack) (room_for last) _ f₂ in
-    fits_for_lem last word lefts' rights' stack' (tip_rises (length word) (length longer) short) (omega arith) (omega arith)
+    fits_for_lem last word lefts' rights' stack' (tip_rises (length word) (length longer) short) (omega arith)
+    (omega arith)
     (omega arith)

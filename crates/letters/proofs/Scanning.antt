@@ -72,7 +72,8 @@ good_more s i good more lt e =
     ∙ and_moved (is_letter_value (letter_of (get_or s i 0))) good (all_letters_value (drop (i + 1) s))
     ∙ ap (λ (l : List ℕ). cond good (all_letters_value l) false) (sym (next s i lt))
 
-pub good_none : (s : List ℕ) (i : ℕ) (good : Bool) → i ≡ length s → good ≡ cond good (all_letters_value (drop i s)) false
+pub good_none : (s : List ℕ) (i : ℕ) (good : Bool) → i ≡ length s
+    → good ≡ cond good (all_letters_value (drop i s)) false
 good_none s i true e = sym (ap (λ (k : ℕ). all_letters_value (drop k s)) e ∙ ap all_letters_value (drop-length s))
 good_none s i false e = refl
 
@@ -83,7 +84,8 @@ good_end [] e = refl
 good_end (c ∷ s) e = go (is_letter_value (letter_of c)) refl e (good_end s)
   where
     go : (t : Bool) → is_letter_value (letter_of c) ≡ t → cond t (all_letters_value s) false ≡ true
-        → (all_letters_value s ≡ true → length s ≡ letters_in_front_value s) → suc (length s) ≡ letters_in_front_value (c ∷ s)
+        → (all_letters_value s ≡ true → length s ≡ letters_in_front_value s)
+        → suc (length s) ≡ letters_in_front_value (c ∷ s)
     go true f h later = ap suc (later h) ∙ sym (end_later (letter_of c) (read_word s) (length s) f)
     go false f h later = let z : ◌≡◌ {A = ℕ} 0 1 = cc in absurd (omega arith)
 
@@ -97,7 +99,8 @@ all_letters_lem s h = go (read_word s) refl
         absurd (omega (arith, ((not_letter s k).0 e).within, ap (λ (r : Reading). reading_end r (length s)) e))
 
 -- Fewer: the number is the offset of the first that is none.
-pub some_bad : (s : List ℕ) → letters_in_front_value s < length s → read_word s ≡ not_letter_is (letters_in_front_value s)
+pub some_bad : (s : List ℕ) → letters_in_front_value s < length s
+    → read_word s ≡ not_letter_is (letters_in_front_value s)
 some_bad s h = go (read_word s) refl
   where
     go : (r : Reading) → read_word s ≡ r → read_word s ≡ not_letter_is (letters_in_front_value s)

@@ -97,7 +97,9 @@ module _ {line : List ℕ} {m m' : Memory} {r : Reply} (h : LineRoom line m) (c 
         ap₂ (λ (b a : List ℕ). tables_row number (length line) b a (take n m'.buffer))
         (table_front b_side m.b m'.b c.leaves.b_table)
         (table_front a_side m.a m'.a c.leaves.a_table)
-        ∙ ap (λ (s : List ℕ). tables_row number (length line) (side_table w b_side) (side_table w a_side) s) record_front
+        ∙ ap
+        (λ (s : List ℕ). tables_row number (length line) (side_table w b_side) (side_table w a_side) s)
+        record_front
         ∙ ap₂ (λ (k l : ℕ). record_row number (length line) k l bytes)
         (ap value_in (table-carets w within))
         (ap value_in (table-length w within))

@@ -24,8 +24,8 @@ row_enough out n h = go (dec_lt out (receipt_size n))
         le-leb n ((out - receipt_size 0) / 8) (omega arith) ∙ sym (ap not (le-ltb out (receipt_size n) (omega arith)))
 
 -- What such a test says of the buffer, where it fails and where it passes.
-pub too_short : (out size : ℕ) {r : Bool} → r ≡ not (ltb out size) → not r ≡ true → out < size
-too_short out size {r} e h = ltb-true out size (not-false (ltb out size) (sym e ∙ not-true r h))
+pub too_short : (out size : ℕ) {r : Bool} → r ≡ not (ltb out size) → r ≡ false → out < size
+too_short out size e h = ltb-true out size (not-false (ltb out size) (sym e ∙ h))
 
-pub long_enough : (out size : ℕ) {r : Bool} → r ≡ not (ltb out size) → not r ≡ false → size ≤ out
-long_enough out size {r} e h = ltb-false out size (not-true (ltb out size) (sym e ∙ not-false r h))
+pub long_enough : (out size : ℕ) {r : Bool} → r ≡ not (ltb out size) → r ≡ true → size ≤ out
+long_enough out size e h = ltb-false out size (not-true (ltb out size) (sym e ∙ h))

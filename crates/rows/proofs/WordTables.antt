@@ -59,7 +59,8 @@ module _ (w : Word) where
     pub table-carets : table_carets (side_table b_side) (side_table a_side) ≡ accepted (carets_of (form_of w))
     table-carets =
         let most = carets-limit limit (form_of w) (omega (arith, form_levels w)) (omega (arith, form_sum w)) in
-        let few : carets_of_sides (side_table b_side) (side_table a_side) ≤ max_carets = omega (arith, same_carets, most) in
+        let few : carets_of_sides (side_table b_side) (side_table a_side) ≤ max_carets =
+        omega (arith, same_carets, most) in
         simp (le-ltb _ _ (entries b_side), le-ltb _ _ (entries a_side), le-ltb _ _ few) (ap accepted same_carets)
 
     -- The length of the tables.

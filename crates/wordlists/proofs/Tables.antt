@@ -51,7 +51,8 @@ module _ (s : Side) (i : ℕ) where
   table_kept (refused n p) t few = refl
 
   -- Lines that do not reach entry i leave it.
-  pub tables_kept : (ls : List (List ℕ)) (t : List ℕ) → NoLineReaches i ls → get_or (tables_then s ls t) i 0 ≡ get_or t i 0
+  pub tables_kept : (ls : List (List ℕ)) (t : List ℕ) → NoLineReaches i ls
+      → get_or (tables_then s ls t) i 0 ≡ get_or t i 0
   tables_kept [] t none = refl
   tables_kept (l ∷ ls) t none =
       tables_kept ls (table_after s (line_read l) t) (λ k l' w at e. none (suc k) l' w at e)

@@ -16,7 +16,8 @@ pub returns-then-rights-last : goal.returns-then-rights-last
 returns-then-rights-last c = short_rights _ _ _ _ _ c.last_tip-last.ensures c.if-lefts-last.false c.if-rights-last.true
 
 pub returns-then-stack-last : goal.returns-then-stack-last
-returns-then-stack-last c = short_stack _ _ _ _ _ c.last_tip-last.ensures c.if-lefts-last.false c.if-rights-last.false c.if-stack-last.true
+returns-then-stack-last c =
+    short_stack _ _ _ _ _ c.last_tip-last.ensures c.if-lefts-last.false c.if-rights-last.false c.if-stack-last.true
 
 pub returns : goal.returns
 returns c = all_fit _ _ _ _ _ c.last_tip-last.ensures c.if-lefts-last.false c.if-rights-last.false c.if-stack-last.false

@@ -31,7 +31,8 @@ last_tip_value n = cond (ltb limit n) limit n
 -- Scratch of these lengths is long enough for the engine.
 abbrev pub fits_for : (last nl nr ns : ℕ) → Bool
 fits_for last nl nr ns =
-    cond (ltb nl (cells_for last)) false (cond (ltb nr (cells_for last)) false (cond (ltb ns (room_for last)) false true))
+    cond (ltb nl (cells_for last)) false
+    (cond (ltb nr (cells_for last)) false (cond (ltb ns (room_for last)) false true))
 
 -- The scratch is long enough for a word.
 abbrev pub fits : (word lefts rights stack : List ℕ) → Bool

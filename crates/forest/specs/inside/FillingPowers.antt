@@ -29,7 +29,9 @@ scratch_fits lefts rights before stack =
 abbrev pub powers_fit_value : (ks es ss : List ℕ) → Bool
 powers_fit_value ks es ss =
     cond (eqb (length es) (length ks))
-    (cond (eqb (length ss) (length ks)) (cond (indices_fit_value ks) (cond (ltb limit (total es)) false true) false) false)
+    (cond (eqb (length ss) (length ks))
+    (cond (indices_fit_value ks) (cond (ltb limit (total es)) false true) false)
+    false)
     false
 
 -- The powers, beside tables and scratch. What is unfit comes first; 0 is no number of the paper, and no call of the

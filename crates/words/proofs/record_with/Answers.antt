@@ -29,13 +29,7 @@ slice_bounds-write_record-end c =
     omega (arith, (levels_within c.args.«record».now roomy call.ensures _ c.in-Filled.is).0, call.auto.b_table)
 
 pub slice_bounds-write_record-end-2 : goal.slice_bounds-write_record-end-2
-slice_bounds-write_record-end-2 c =
-    let roomy : buffer_size (length c.args.word.now) ≤ length c.args.«record».now =
-    ltb-false _ _ (sym c.is_short.ensures ∙ c.if-is_short.false) in
-    let call = c.fill_tables-filling in
-    sym
-    (length-take-le _ _
-    (omega (arith, (levels_within c.args.«record».now roomy call.ensures _ c.in-Filled.is).0, call.auto.b_table)))
+slice_bounds-write_record-end-2 c = sym (length-take-le _ _ (slice_bounds-write_record-end c))
 
 pub slice_bounds-write_record-end-3 : goal.slice_bounds-write_record-end-3
 slice_bounds-write_record-end-3 c =
@@ -45,13 +39,7 @@ slice_bounds-write_record-end-3 c =
     omega (arith, (levels_within c.args.«record».now roomy call.ensures _ c.in-Filled.is).1, call.auto.a_table)
 
 pub slice_bounds-write_record-end-4 : goal.slice_bounds-write_record-end-4
-slice_bounds-write_record-end-4 c =
-    let roomy : buffer_size (length c.args.word.now) ≤ length c.args.«record».now =
-    ltb-false _ _ (sym c.is_short.ensures ∙ c.if-is_short.false) in
-    let call = c.fill_tables-filling in
-    sym
-    (length-take-le _ _
-    (omega (arith, (levels_within c.args.«record».now roomy call.ensures _ c.in-Filled.is).1, call.auto.a_table)))
+slice_bounds-write_record-end-4 c = sym (length-take-le _ _ (slice_bounds-write_record-end-3 c))
 
 pub returns : goal.returns
 returns c =

@@ -3,7 +3,8 @@
 use native.Mathlib.Omega.{arith}
 use Rattle.forest.proofs.Joining.{join_merged, join_added}
 use Rattle.forest.proofs.cells.join.Goals as goal
-use Rattle.forest.proofs.cells.join.Goals.{then-right-eq0+then-left-gt0+else-left-last, then-right-eq0+else-left-gt0, else-right-eq0}
+use Rattle.forest.proofs.cells.join.Goals.{then-right-eq0+then-left-gt0+else-left-last, then-right-eq0+else-left-gt0}
+use Rattle.forest.proofs.cells.join.Goals.{else-right-eq0}
 
 pub returns-then-left-last : goal.returns-then-left-last
 returns-then-left-last c =

@@ -19,7 +19,8 @@ pub bounds-rights-k : goal.bounds-rights-k
 bounds-rights-k c = omega (arith, walk_turn c.loop-code.invariant c.requires c.loop-code-test.true)
 
 pub push-height-requires : goal.push-height-requires
-push-height-requires c = omega (arith, walk_turn c.loop-code.invariant c.requires c.loop-code-test.true, c.loop-code.invariant.same)
+push-height-requires c =
+    omega (arith, walk_turn c.loop-code.invariant c.requires c.loop-code-test.true, c.loop-code.invariant.same)
 
 pub bounds-lefts-k : goal.bounds-lefts-k
 bounds-lefts-k c = omega (arith, walk_turn c.loop-code.invariant c.requires c.loop-code-test.true)
@@ -37,7 +38,8 @@ loop-code-smaller c =
 pub loop-code-preserved : goal.loop-code-preserved
 loop-code-preserved c =
     walk_more c.loop-code.invariant c.wide-k.result c.wide-k.ensures c.loop-code-test.true
-    (walk_turn c.loop-code.invariant c.requires c.loop-code-test.true).lower c.push-height.auto.stack c.push-height.ensures
+    (walk_turn c.loop-code.invariant c.requires c.loop-code-test.true).lower c.push-height.auto.stack
+    c.push-height.ensures
 
 pub shape_of-stack : goal.shape_of-stack
 shape_of-stack c = c.loop-code.invariant.same

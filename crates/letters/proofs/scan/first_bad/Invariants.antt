@@ -7,7 +7,8 @@ use Rattle.letters.specs.inside.Scanning.{letters_in_front_value}
 use Rattle.letters.proofs.scan.first_bad.Given as goal
 
 abbrev pub invariant-loop-i : goal.invariant-loop-i
-invariant-loop-i l = (l.i ≤ length l.word) × (l.i + letters_in_front_value (drop l.i l.word) ≡ letters_in_front_value l.word)
+invariant-loop-i l =
+    (l.i ≤ length l.word) × (l.i + letters_in_front_value (drop l.i l.word) ≡ letters_in_front_value l.word)
 
 abbrev pub decreases-loop-i : goal.decreases-loop-i
 decreases-loop-i l = length l.word - l.i

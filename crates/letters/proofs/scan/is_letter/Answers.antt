@@ -11,7 +11,8 @@ pub returns-then-byte-eq65 : goal.returns-then-byte-eq65
 returns-then-byte-eq65 c = simp (ne_eqb _ _ c.if-byte-eq97.false, eq-eqb _ _ c.if-byte-eq65.true)
 
 pub returns-then-byte-eq98 : goal.returns-then-byte-eq98
-returns-then-byte-eq98 c = simp (ne_eqb _ _ c.if-byte-eq97.false, ne_eqb _ _ c.if-byte-eq65.false, eq-eqb _ _ c.if-byte-eq98.true)
+returns-then-byte-eq98 c =
+    simp (ne_eqb _ _ c.if-byte-eq97.false, ne_eqb _ _ c.if-byte-eq65.false, eq-eqb _ _ c.if-byte-eq98.true)
 
 pub returns : goal.returns
 returns c = letter_last _ c.if-byte-eq97.false c.if-byte-eq65.false c.if-byte-eq98.false

@@ -12,7 +12,11 @@ slice_bounds-put_item-count c = omega (arith, c.line_end-end.ensures, line_end_f
 
 pub slice_bounds-put_item-end : goal.slice_bounds-put_item-end
 slice_bounds-put_item-end c =
-    omega (arith, c.line_end-end.ensures, line_end_within c.args.list.now c.loop-at.at (omega (arith, c.loop-at-test.true)))
+    omega (
+      arith,
+      c.line_end-end.ensures,
+      line_end_within c.args.list.now c.loop-at.at (omega (arith, c.loop-at-test.true)),
+    )
 
 pub put_item-written-requires : goal.put_item-written-requires
 put_item-written-requires c =
@@ -20,7 +24,11 @@ put_item-written-requires c =
 
 pub overflow_add-at : goal.overflow_add-at
 overflow_add-at c =
-    omega (arith, c.line_end-end.ensures, line_end_within c.args.list.now c.loop-at.at (omega (arith, c.loop-at-test.true)))
+    omega (
+      arith,
+      c.line_end-end.ensures,
+      line_end_within c.args.list.now c.loop-at.at (omega (arith, c.loop-at-test.true)),
+    )
 
 pub loop-at-smaller : goal.loop-at-smaller
 loop-at-smaller c =
