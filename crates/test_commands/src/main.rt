@@ -5,11 +5,13 @@
 
 use cases::counts::print_text;
 use cases::{fields, parts};
-use libc::STDIN_FILENO;
 
 mod drawn;
 mod records;
 mod words;
+
+// The number of standard input.
+const STDIN: i32 = 0;
 
 // The most bytes of all lines.
 const INPUT: usize = 16384;
@@ -41,6 +43,6 @@ fn run(text: &[u8]) {
 
 fn main() {
     let mut input = [0u8; INPUT];
-    let n = io::read_full(STDIN_FILENO, &mut input);
+    let n = io::read_full(STDIN, &mut input);
     run(parts::front(&input, n));
 }

@@ -9,18 +9,13 @@ pub const RECORD: usize = 256;
 
 // The question of a word.
 fn question(word: &[u8]) -> Question {
-    if check::same(word, b"check") {
-        Question::Check
-    } else if check::same(word, b"word") {
-        Question::Word
-    } else if check::same(word, b"text") {
-        Question::Text
-    } else if check::same(word, b"length") {
-        Question::Length
-    } else if check::same(word, b"label-length") {
-        Question::LabelLength
-    } else {
-        Question::Pair
+    match word {
+        b"check" => Question::Check,
+        b"word" => Question::Word,
+        b"text" => Question::Text,
+        b"length" => Question::Length,
+        b"label-length" => Question::LabelLength,
+        _ => Question::Pair,
     }
 }
 
@@ -36,7 +31,7 @@ fn print_other(question: Question, bytes: &[u8; RECORD], n: usize, said: &[u8]) 
     let mut out = [0u8; ANSWER];
     let record = parts::front(bytes, n);
     let answer = commands::ask(question, record, &mut first, &mut second, &mut out);
-    if !check::same(text(&out, answer), said) {
+    if text(&out, answer) != said {
         print_text(b"of its bytes: ");
         print_text(text(&out, answer));
     }

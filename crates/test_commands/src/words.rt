@@ -65,19 +65,13 @@ fn print_two(word1: &[u8], word2: &[u8]) {
 
 // The answer of a word of the command to its argument.
 pub fn print(word: &[u8], argument: &[u8]) {
-    if check::same(word, b"record") {
-        print_sent(false, argument);
-    } else if check::same(word, b"list") {
-        print_sent(true, argument);
-    } else if check::same(word, b"same") {
-        print_line(argument);
-    } else if check::same(word, b"two") {
-        print_two(fields::field(argument, 0), fields::field(argument, 1));
-    } else if check::same(word, b"draw") {
-        drawn::print(false, argument);
-    } else if check::same(word, b"draw-text") {
-        drawn::print(true, argument);
-    } else {
-        records::print(word, argument);
+    match word {
+        b"record" => print_sent(false, argument),
+        b"list" => print_sent(true, argument),
+        b"same" => print_line(argument),
+        b"two" => print_two(fields::field(argument, 0), fields::field(argument, 1)),
+        b"draw" => drawn::print(false, argument),
+        b"draw-text" => drawn::print(true, argument),
+        _ => records::print(word, argument),
     }
 }
