@@ -1,6 +1,7 @@
 -- What is taken of a part of an input has its bounds: the bytes of the receipts, the line number and the line buffer.
 -- Assumes nothing.
-use Rattle.std.proofs.Common.{◌≡◌, ℕ, ◌+◌, ◌*◌, ◌^◌, ◌<◌, ◌≤◌, List, [], ◌∷◌, length, take, sym, refl, ◌∙◌, subst, arith, length-append}
+use Rattle.std.proofs.Common.{◌≡◌, ℕ, ◌+◌, ◌*◌, ◌^◌, ◌<◌, ◌≤◌, List, [], ◌∷◌, length, take, sym, refl, ◌∙◌, subst}
+use Rattle.std.proofs.Common.{arith, length-append}
 use native.Mathlib.Decide.{ℕ_discrete}
 use Rattle.lines.specs.Lines.{line_feed}
 use Rattle.lines.specs.Feeding.{kept_line, kept_count}

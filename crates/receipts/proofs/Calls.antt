@@ -1,6 +1,7 @@
 -- What the calls of the receipt program leave, where they do not refuse: the text fits into the buffer, and stands at
 -- its front. Assumes nothing.
-use Rattle.std.proofs.Common.{◌≡◌, ℕ, ◌^◌, ◌<◌, ◌≤◌, List, [], ◌∷◌, length, take, sym, ap, ◌∙◌, arith, length-append, length-take}
+use Rattle.std.proofs.Common.{◌≡◌, ℕ, ◌^◌, ◌<◌, ◌≤◌, List, [], ◌∷◌, length, take, sym, ap, ◌∙◌, arith, length-append}
+use Rattle.std.proofs.Common.{length-take}
 use native.Mathlib.Decide.{dec_lt}
 use lib.Seq.{sets}
 use Rattle.lists.proofs.Writes.{sets_front}

@@ -1,6 +1,7 @@
 -- The receipts of an input that comes in parts are those of its lines (01, 'The receipt program'): a line buffer holds
 -- one byte more than a word has letters, which is all that a receipt asks of a line. Assumes nothing.
-use Rattle.std.proofs.Common.{◌≡◌, ℕ, suc, ◌+◌, ◌^◌, ◌<◌, ◌≤◌, List, [], ◌∷◌, ◌++◌, length, take, sym, refl, ap, ◌∙◌, append_assoc, arith, length-take, take_all}
+use Rattle.std.proofs.Common.{◌≡◌, ℕ, suc, ◌+◌, ◌^◌, ◌<◌, ◌≤◌, List, [], ◌∷◌, ◌++◌, length, take, sym, refl, ap, ◌∙◌}
+use Rattle.std.proofs.Common.{append_assoc, arith, length-take, take_all}
 use native.Mathlib.Decide.{dec_lt, ℕ_discrete}
 use Rattle.lines.specs.Lines.{line_feed, last_line, lines_from}
 use Rattle.lines.specs.Feeding.{kept_line, kept_count}

@@ -1,5 +1,6 @@
 -- The steps of `serve_lines`: one call of `feed`, and the receipt of a line that ended. Assumes nothing.
-use Rattle.std.proofs.Common.{◌≡◌, ℕ, ◌+◌, ◌-◌, ◌^◌, ◌<◌, ◌≤◌, true, false, List, [], length, take, drop, sym, refl, ap, ◌∙◌, subst, ap₂, arith, length-drop, drop_of_length-le, length-take, drop-drop}
+use Rattle.std.proofs.Common.{◌≡◌, ℕ, ◌+◌, ◌-◌, ◌^◌, ◌<◌, ◌≤◌, true, false, List, [], length, take, drop, sym, refl, ap}
+use Rattle.std.proofs.Common.{◌∙◌, subst, ap₂, arith, length-drop, drop_of_length-le, length-take, drop-drop}
 use Rattle.lists.specs.inside.Writes.{Wrote, Writing}
 use Rattle.lists.proofs.Writes.{write_start, write_more, write_done, writing_length}
 use Rattle.lines.specs.inside.Taking.{TookLine}

@@ -1,6 +1,7 @@
 -- One call of `feed` and the bytes it takes: a line that ended has its receipt, and the rest is taken from the next
 -- number with no byte held; else nothing is left. Assumes nothing.
-use Rattle.std.proofs.Common.{◌≡◌, ℕ, suc, ◌+◌, ◌≤◌, Bool, true, false, List, [], ◌∷◌, length, take, drop, sym, refl, ◌∙◌, subst, ap₂, arith}
+use Rattle.std.proofs.Common.{◌≡◌, ℕ, suc, ◌+◌, ◌≤◌, Bool, true, false, List, [], ◌∷◌, length, take, drop, sym, refl}
+use Rattle.std.proofs.Common.{◌∙◌, subst, ap₂, arith}
 use native.Mathlib.Decide.{ℕ_discrete}
 use Rattle.lines.specs.Lines.{line_feed}
 use Rattle.lines.specs.Feeding.{kept_line, kept_count}

@@ -9,6 +9,7 @@ ghost use Rattle.receipts.specs.Serving.{served, part_size};
 ghost use Rattle.receipts.specs.Promises.{Begun, Finished, ServedPart};
 ghost use Rattle.receipts.specs.inside.Taking.{PartTaken};
 
+use copying::copy_bytes;
 use refusals::{LIMIT, Refusal, Reply};
 use rows::{CELLS, RECORD, ROOM, SHORT_RECEIPT, TABLE};
 
@@ -28,7 +29,7 @@ pub const PART: usize = 4096;
 pub const OUTPUT: usize = PART * SHORT_RECEIPT + 8 * (PART + LINE);
 
 // Behind a part: the number of the line that has begun, how many of its bytes are held, and the bytes of the receipts.
-#[derive(Drop)]
+#[derive(Clone, Copy)]
 pub struct Served {
     pub number: u64,
     pub held: usize,
@@ -36,7 +37,7 @@ pub struct Served {
 }
 
 // The answer of `serve`.
-#[derive(Drop)]
+#[derive(Clone, Copy)]
 pub enum Serving {
     Taken(Served),
     Refused(Refusal),
@@ -49,7 +50,7 @@ pub fn begin(out: &mut [u8]) -> Reply
     if out.len() < HEADER_SIZE {
         return Reply::Refused(Refusal::ShortBuffer);
     }
-    Reply::Number(bytes::copy(b"line letters carets length record\n", out))
+    Reply::Number(copy_bytes(b"line letters carets length record\n", out))
 }
 
 // Whether a buffer is long enough for the receipts of a part.
@@ -134,7 +135,7 @@ fn serve_lines(
         h = fed.held;
         if fed.ended {
             written = put_held(k, line, h, out, written, b, a, record, lefts, rights, stack);
-            k = std::num::wrapping_add_u64(k, 1);
+            k = k.wrapping_add(1);
             h = 0;
         }
     }
