@@ -77,7 +77,8 @@ pub count_denied : {r : Reply} {q : Refusal} → r ≡ Refused q → denying (re
 count_denied e = ap (λ (x : Reply). said decimal (reply_of x)) (sym e)
 
 -- A verdict, by its case.
-pub verdict_kept : {A : Type 0} (text : List ℕ) {v : Verdict} (o : Outcome A) → verdict_of v ≡ drop_value o → v ≡ Accepted
+pub verdict_kept : {A : Type 0} (text : List ℕ) {v : Verdict} (o : Outcome A) → verdict_of v ≡ drop_value o
+    → v ≡ Accepted
     → saying (line_of text) ≡ said (λ x. text) o
 verdict_kept text o h e =
     ap (λ (x : Verdict). said {A = ℕ} (λ n. text) (verdict_of x)) (sym e)

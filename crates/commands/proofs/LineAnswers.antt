@@ -123,7 +123,8 @@ module _ {line : List ℕ} {m m' : Memory} {r : Reply} (f : Full m) where
   pub word_found : is_text_value line ≡ false → Recorded line m m' r → LineRecord line (front_of (reply_of r) m'.buffer)
   word_found e h = subst (LineRecord line) (sym (word_front h)) (of_word e)
 
-  pub text_found : is_text_value line ≡ true → TextRecorded line m m' r → LineRecord line (front_of (reply_of r) m'.buffer)
+  pub text_found : is_text_value line ≡ true → TextRecorded line m m' r
+      → LineRecord line (front_of (reply_of r) m'.buffer)
   text_found e h = subst (LineRecord line) (sym (text_front h)) (of_text e h.found h.reads)
 
 -- The bytes of the item of a refused word.

@@ -28,7 +28,8 @@ use Rattle.commands.specs.declared.Question.{Question}
 use Rattle.commands.specs.declared.Question.TheVariants.{Check, Word as AsWord, Text, Length, LabelLength, Pair}
 use Rattle.commands.specs.Answers.{Said, denying, refusal_text}
 use Rattle.commands.specs.Records.{record_said, hex_said}
-use Rattle.commands.specs.Words.{is_text_value, word_record, LineRecord, of_word, of_text, text_most, is_long_value, RecordSaid}
+use Rattle.commands.specs.Words.{is_text_value, word_record, LineRecord, of_word, of_text, text_most, is_long_value}
+use Rattle.commands.specs.Words.{RecordSaid}
 use Rattle.commands.specs.Words.{long, read, item_by, decision_said, blank_at, same_line_said}
 use Rattle.commands.specs.Parts.{CutKeepsItem, CutKeepsTwoWords, CutKeepsRecord, HexInParts}
 use Rattle.commands.proofs.TwoWords.{single_long, line_two, line_single}
@@ -131,7 +132,8 @@ far_long line far = simp (lt-ltb text_most (length line) far) (go (is_text_value
     go false = refl
 
 -- Two such lines that begin alike.
-module _ (l l' : List ℕ) (far : text_most < length l) (far' : text_most < length l') (alike : is_text_value l ≡ is_text_value l') where
+module _ (l l' : List ℕ) (far : text_most < length l) (far' : text_most < length l')
+    (alike : is_text_value l ≡ is_text_value l') where
   -- Both are too long, or neither is.
   far_same : is_long_value l' ≡ is_long_value l
   far_same = far_long l' far' ∙ sym alike ∙ sym (far_long l far)

@@ -14,7 +14,8 @@ use Rattle.commands.specs.Answers.{denying}
 use Rattle.commands.specs.Records.{record_said, stray_text, hex_said}
 
 -- The pieces of the line, one behind another.
-pub stray_pieces : (offset : ℕ) → ascii "not hexadecimal at " ++ (decimal offset ++ (line_feed ∷ [])) ≡ stray_text offset
+pub stray_pieces : (offset : ℕ)
+    → ascii "not hexadecimal at " ++ (decimal offset ++ (line_feed ∷ [])) ≡ stray_text offset
 stray_pieces offset = sym (append_assoc (ascii "not hexadecimal at ") (decimal offset) (line_feed ∷ []))
 
 module _ (q : Question) (bytes : List ℕ) (m : Amid) where

@@ -2,7 +2,8 @@
 --     LineRecord line o     the record of a line, a word or, where it begins with `x`, a text; or what is refused
 --     RecordSaid line s     the answer of `record`        item_said line   of `list`        same_said u v   of `same`
 -- Assumes nothing.
-use Rattle.std.specs.Prelude.{◌≡◌, Bool, true, false, cond, List, [], ◌∷◌, ◌++◌, ℕ, zero, suc, eqb, ltb, length, take, drop}
+use Rattle.std.specs.Prelude.{◌≡◌, Bool, true, false, cond, List, [], ◌∷◌, ◌++◌, ℕ, zero, suc, eqb, ltb, length, take}
+use Rattle.std.specs.Prelude.{drop}
 use Rattle.numerals.specs.Decimals.{ascii}
 use Rattle.group.specs.Limits.{limit}
 use Rattle.group.specs.Letters.{Word}
@@ -37,7 +38,8 @@ text_record o =
 -- The record of a line, or what is refused.
 pub data LineRecord (line : List ℕ) : Outcome (List ℕ) → Type 0 where
   of_word : is_text_value line ≡ false → LineRecord line (word_record (line_read line))
-  of_text : is_text_value line ≡ true → (o : Outcome (List SignedPower)) → TextRead line o → LineRecord line (text_record o)
+  of_text : is_text_value line ≡ true → (o : Outcome (List SignedPower)) → TextRead line o
+      → LineRecord line (text_record o)
 
 -- The most bytes of a text that is read: those of the longest argument of a command line.
 abbrev pub text_most : ℕ
