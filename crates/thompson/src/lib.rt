@@ -169,8 +169,7 @@ fn from_entered(e: Entered) -> Filing
 }
 
 // Word to record; the value is the number of bytes written.
-#[unsafe(no_mangle)]
-pub extern "C" fn thompson_word_to_record(
+pub fn thompson_word_to_record(
     word: &[u8],
     b_table: &mut [u16],
     a_table: &mut [u16],
@@ -184,8 +183,7 @@ pub extern "C" fn thompson_word_to_record(
 }
 
 // Many words in one call; the value is the number of bytes written.
-#[unsafe(no_mangle)]
-pub extern "C" fn thompson_list_to_records(
+pub fn thompson_list_to_records(
     list: &[u8],
     b_table: &mut [u16],
     a_table: &mut [u16],
@@ -199,16 +197,14 @@ pub extern "C" fn thompson_list_to_records(
 }
 
 // Record check; the value is 0.
-#[unsafe(no_mangle)]
-pub extern "C" fn thompson_check_record(record: &[u8]) -> Answer
+pub fn thompson_check_record(record: &[u8]) -> Answer
     ensures { Passed (λ a. code_of (verdict_of a)) (Checked «record».now) result }
 {
     from_verdict(records::check_record(record))
 }
 
 // Record to word; the value is the number of letters.
-#[unsafe(no_mangle)]
-pub extern "C" fn thompson_record_to_word(record: &[u8], word: &mut [u8]) -> Answer
+pub fn thompson_record_to_word(record: &[u8], word: &mut [u8]) -> Answer
     ensures { Passed (λ a. code_of (reply_of a))
         (Spelled «record».now word.old word.new) result }
 {
@@ -216,8 +212,7 @@ pub extern "C" fn thompson_record_to_word(record: &[u8], word: &mut [u8]) -> Ans
 }
 
 // Text to record; the value is the number of bytes written.
-#[unsafe(no_mangle)]
-pub extern "C" fn thompson_text_to_record(
+pub fn thompson_text_to_record(
     text: &[u8],
     b_table: &mut [u16],
     a_table: &mut [u16],
@@ -231,8 +226,7 @@ pub extern "C" fn thompson_text_to_record(
 }
 
 // Record to text; the value is the number of bytes of the text.
-#[unsafe(no_mangle)]
-pub extern "C" fn thompson_record_to_text(record: &[u8], text: &mut [u8]) -> Answer
+pub fn thompson_record_to_text(record: &[u8], text: &mut [u8]) -> Answer
     ensures { Passed (λ a. code_of (reply_of a))
         (TextWritten «record».now text.old text.new) result }
 {
@@ -240,12 +234,7 @@ pub extern "C" fn thompson_record_to_text(record: &[u8], text: &mut [u8]) -> Ans
 }
 
 // Record to tree pair; the value is the number of carets of each tree.
-#[unsafe(no_mangle)]
-pub extern "C" fn thompson_record_to_tree_pair(
-    record: &[u8],
-    t_minus: &mut [u8],
-    t_plus: &mut [u8],
-) -> Answer
+pub fn thompson_record_to_tree_pair(record: &[u8], t_minus: &mut [u8], t_plus: &mut [u8]) -> Answer
     ensures { Passed (λ a. code_of (reply_of a))
         (Paired «record».now t_minus.old t_plus.old
         t_minus.new t_plus.new) result }
@@ -254,24 +243,21 @@ pub extern "C" fn thompson_record_to_tree_pair(
 }
 
 // Record to length; the value is the length.
-#[unsafe(no_mangle)]
-pub extern "C" fn thompson_record_to_length(record: &[u8]) -> Answer
+pub fn thompson_record_to_length(record: &[u8]) -> Answer
     ensures { Passed (λ a. code_of (reply_of a)) (Measured form_length «record».now) result }
 {
     from_reply(pairs::record_to_length(record))
 }
 
 // Record to length by Table 1; the value is the length.
-#[unsafe(no_mangle)]
-pub extern "C" fn thompson_record_to_label_length(record: &[u8]) -> Answer
+pub fn thompson_record_to_label_length(record: &[u8]) -> Answer
     ensures { Passed (λ a. code_of (reply_of a)) (Measured label_sum «record».now) result }
 {
     from_reply(pairs::record_to_label_length(record))
 }
 
 // Two words; the value is 1 where they are the same element, and 0 where they are not.
-#[unsafe(no_mangle)]
-pub extern "C" fn thompson_same_element(
+pub fn thompson_same_element(
     word1: &[u8],
     b_table1: &mut [u16],
     a_table1: &mut [u16],
@@ -294,8 +280,7 @@ pub extern "C" fn thompson_same_element(
 }
 
 // A word filed into a register under a holder; the value is the entry's number.
-#[unsafe(no_mangle)]
-pub extern "C" fn thompson_enter_word(
+pub fn thompson_enter_word(
     word: &[u8],
     b_table: &mut [u16],
     a_table: &mut [u16],
@@ -312,28 +297,21 @@ pub extern "C" fn thompson_enter_word(
 }
 
 // Register check; the value is 0.
-#[unsafe(no_mangle)]
-pub extern "C" fn thompson_check_register(register: &[u8]) -> Answer
+pub fn thompson_check_register(register: &[u8]) -> Answer
     ensures { Passed (λ a. code_of (verdict_of a)) (RegisterChecked register.now) result }
 {
     from_verdict(registers::check_register(register))
 }
 
 // The live entries of a holder; the value is their number.
-#[unsafe(no_mangle)]
-pub extern "C" fn thompson_live_entries(register: &[u8], holder: u16) -> Answer
+pub fn thompson_live_entries(register: &[u8], holder: u16) -> Answer
     ensures { Passed (λ a. code_of (live_of a)) (AccountRead register.now holder) result }
 {
     from_account(updates::account_of(register, holder))
 }
 
 // Shape to packed shape; the value is how many numbers it takes.
-#[unsafe(no_mangle)]
-pub extern "C" fn thompson_pack_shape(
-    shape: &[u8],
-    numbers: &mut [u64],
-    summary: &mut [u16],
-) -> Answer
+pub fn thompson_pack_shape(shape: &[u8], numbers: &mut [u64], summary: &mut [u16]) -> Answer
     ensures { Passed (λ a. code_of (reply_of a))
         (Repacked (packing shape.now numbers.old summary.old)
         numbers.old summary.old numbers.new summary.new) result }
@@ -342,12 +320,7 @@ pub extern "C" fn thompson_pack_shape(
 }
 
 // Packed shape to shape; the value is the number of bytes written.
-#[unsafe(no_mangle)]
-pub extern "C" fn thompson_unpack_shape(
-    numbers: &[u64],
-    summary: &[u16],
-    shape: &mut [u8],
-) -> Answer
+pub fn thompson_unpack_shape(numbers: &[u64], summary: &[u16], shape: &mut [u8]) -> Answer
     ensures { Passed (λ a. code_of (reply_of a))
         (Placed (unpacking numbers.now summary.now shape.old)
         shape.old shape.new) result }
@@ -356,8 +329,7 @@ pub extern "C" fn thompson_unpack_shape(
 }
 
 // The carets before a node of a packed shape; the value is their number.
-#[unsafe(no_mangle)]
-pub extern "C" fn thompson_carets_before(numbers: &[u64], summary: &[u16], node: u64) -> Answer
+pub fn thompson_carets_before(numbers: &[u64], summary: &[u16], node: u64) -> Answer
     ensures { Passed (λ a. code_of (reply_of a)) (λ a. AnswersNode (λ s. carets_before_value s node)
         numbers.now summary.now node (reply_of a)) result }
 {
@@ -365,8 +337,7 @@ pub extern "C" fn thompson_carets_before(numbers: &[u64], summary: &[u16], node:
 }
 
 // Where the subtree of a node of a packed shape ends; the value is the node just behind its last.
-#[unsafe(no_mangle)]
-pub extern "C" fn thompson_subtree_end(numbers: &[u64], summary: &[u16], node: u64) -> Answer
+pub fn thompson_subtree_end(numbers: &[u64], summary: &[u16], node: u64) -> Answer
     ensures { Passed (λ a. code_of (node_end_of a)) (λ a. AnswersNode (λ s. subtree_end_value s node)
         numbers.now summary.now node (node_end_of a)) result }
 {
@@ -375,8 +346,7 @@ pub extern "C" fn thompson_subtree_end(numbers: &[u64], summary: &[u16], node: u
 
 // A caret grown at a leaf of a packed shape; the value is how many numbers the grown shape takes. No tree within the
 // bound has a leaf above 65,535.
-#[unsafe(no_mangle)]
-pub extern "C" fn thompson_grow_caret(numbers: &mut [u64], summary: &mut [u16], leaf: u64) -> Answer
+pub fn thompson_grow_caret(numbers: &mut [u64], summary: &mut [u16], leaf: u64) -> Answer
     ensures { Passed (λ a. code_of (reply_of a))
         (Repacked (growing numbers.old summary.old leaf)
         numbers.old summary.old numbers.new summary.new) result }
