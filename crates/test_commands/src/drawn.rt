@@ -1,5 +1,5 @@
 // Pictures of records.
-use crate::records;
+use crate::record_lines;
 use cases::counts::print_text;
 use cases::parts;
 use commands::{ANSWER, ROOM};
@@ -21,7 +21,7 @@ fn print_record(characters: bool, record: &[u8]) {
     );
     match drawn {
         Drawn::Picture(n) => print_picture(&picture, n),
-        Drawn::Refused(answer) => print_text(records::text(&out, answer)),
+        Drawn::Refused(answer) => print_text(record_lines::text(&out, answer)),
     }
 }
 
@@ -33,12 +33,12 @@ fn print_picture(picture: &[u8; PICTURE], n: usize) {
 
 // The picture of a record in hexadecimal.
 pub fn print(characters: bool, chars: &[u8]) {
-    let mut bytes = [0u8; records::RECORD];
+    let mut bytes = [0u8; record_lines::RECORD];
     let amid = hexadecimal::read(chars, &mut bytes, hexadecimal::begin());
     print_front(characters, &bytes, amid.held);
 }
 
 // The picture of the first n bytes.
-fn print_front(characters: bool, bytes: &[u8; records::RECORD], n: usize) {
+fn print_front(characters: bool, bytes: &[u8; record_lines::RECORD], n: usize) {
     print_record(characters, parts::front(bytes, n));
 }

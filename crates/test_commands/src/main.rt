@@ -7,8 +7,8 @@ use cases::counts::print_text;
 use cases::{fields, parts};
 
 mod drawn;
-mod records;
-mod words;
+mod record_lines;
+mod word_lines;
 
 // The number of standard input.
 const STDIN: i32 = 0;
@@ -21,7 +21,7 @@ fn print_case(line: &[u8]) {
     print_text(line);
     if parts::byte(line, 0) != b'#' {
         print_text(b": ");
-        words::print(
+        word_lines::print(
             fields::field(line, 0),
             parts::behind(line, fields::field(line, 0).len() % INPUT + 1),
         );

@@ -1,5 +1,5 @@
 // Words, alone and two of them.
-use crate::{drawn, records};
+use crate::{drawn, record_lines};
 use cases::counts::print_text;
 use cases::fields;
 use commands::{ANSWER, ROOM, TABLE, comparing, sending};
@@ -15,7 +15,7 @@ fn print_sent(list: bool, line: &[u8]) {
     } else {
         sending::send(line, &mut b, &mut a, &mut record, &mut out)
     };
-    print_text(records::text(&out, answer));
+    print_text(record_lines::text(&out, answer));
 }
 
 // Two words on a line.
@@ -37,7 +37,7 @@ fn print_line(line: &[u8]) {
         &mut record2,
         &mut out,
     );
-    print_text(records::text(&out, answer));
+    print_text(record_lines::text(&out, answer));
 }
 
 // Two words apart.
@@ -60,7 +60,7 @@ fn print_two(word1: &[u8], word2: &[u8]) {
         &mut record2,
         &mut out,
     );
-    print_text(records::text(&out, answer));
+    print_text(record_lines::text(&out, answer));
 }
 
 // The answer of a word of the command to its argument.
@@ -72,6 +72,6 @@ pub fn print(word: &[u8], argument: &[u8]) {
         b"two" => print_two(fields::field(argument, 0), fields::field(argument, 1)),
         b"draw" => drawn::print(false, argument),
         b"draw-text" => drawn::print(true, argument),
-        _ => records::print(word, argument),
+        _ => record_lines::print(word, argument),
     }
 }
