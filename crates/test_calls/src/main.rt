@@ -5,16 +5,18 @@
 #![tactic(auto)]
 
 use cases::{counts, fields, parts};
-use libc::STDIN_FILENO;
 use receipts::OUTPUT;
 
 mod both;
 mod memory;
-mod printing;
+mod printed;
 mod reading;
 mod runs;
 mod spheres;
 mod tables;
+
+// The number of standard input.
+const STDIN: i32 = 0;
 
 // The bytes of a line in which the name of the call stands.
 const NAME: usize = 8;
@@ -59,7 +61,7 @@ fn take_line(line: &[u8]) {
 
 // All lines.
 fn run(input: &mut [u8; INPUT]) {
-    let n = io::read_full(STDIN_FILENO, input);
+    let n = io::read_full(STDIN, input);
     let text = parts::front(input, n);
     let mut at = 0;
     while at < text.len() {

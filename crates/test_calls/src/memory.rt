@@ -1,6 +1,6 @@
 // The calls on words, records and texts, each lent memory of the sizes that a line asks for.
-use crate::printing;
-use crate::printing::{ENTRY, TABLE};
+use crate::printed;
+use crate::printed::{ENTRY, TABLE};
 use cases::fields::Sizes;
 use cases::parts;
 use cases::parts::BYTE;
@@ -18,7 +18,7 @@ fn tables(record: &[u8], b: &mut [u16], a: &mut [u16]) -> Answer {
             refusal: 0,
             value: 0,
         },
-        Verdict::Refused(r) => printing::refused(r),
+        Verdict::Refused(r) => printed::refused(r),
     }
 }
 
@@ -53,7 +53,7 @@ pub fn lend(kind: u8, given: &[u8], s: Sizes, other: &[u8], s2: Sizes, out: &mut
     let mut b2 = [ENTRY; TABLE];
     let mut a2 = [ENTRY; TABLE];
     let mut out2 = [BYTE; BUFFER];
-    printing::answer(call(
+    printed::answer(call(
         kind,
         given,
         parts::entries_mut(&mut b, s.b),
@@ -64,6 +64,6 @@ pub fn lend(kind: u8, given: &[u8], s: Sizes, other: &[u8], s2: Sizes, out: &mut
         parts::entries_mut(&mut a2, s2.a),
         parts::front_mut(&mut out2, s2.out),
     ));
-    printing::memory(&b, &a, out);
-    printing::memory(&b2, &a2, &out2);
+    printed::memory(&b, &a, out);
+    printed::memory(&b2, &a2, &out2);
 }

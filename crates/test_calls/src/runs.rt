@@ -1,5 +1,5 @@
 // The receipts of an input that comes in parts.
-use crate::printing;
+use crate::printed;
 use cases::fields::Sizes;
 use cases::{counts, parts};
 use receipts::{LINE, Served, Serving};
@@ -8,8 +8,8 @@ use std::num::wrapping_add_usize;
 
 // A refusal, and what is in the output buffer.
 fn refused(r: Refusal, out: &[u8]) {
-    printing::answer(printing::refused(r));
-    printing::buffer(out);
+    printed::answer(printed::refused(r));
+    printed::buffer(out);
     counts::print_text(b"\n");
 }
 

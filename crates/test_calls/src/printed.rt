@@ -2,9 +2,11 @@
 // where its entries change, the new bytes of the buffer. Where nothing was altered only `b` and `a` stand there.
 use cases::counts::{print_number, print_text};
 use cases::parts::BYTE;
-use libc::STDOUT_FILENO;
 use refusals::Refusal;
 use thompson::Answer;
+
+// The number of standard output.
+const STDOUT: i32 = 1;
 
 // What a table entry holds before a call.
 pub const ENTRY: u16 = 55555;
@@ -55,7 +57,7 @@ fn changed(i: usize, before: u8, x: u8) {
         print_number(b" ", i as u64);
         print_text(b"=");
     }
-    io::print_hex(STDOUT_FILENO, x as u64, 2);
+    io::print_hex(STDOUT, x as u64, 2);
 }
 
 // The bytes of a buffer that are not what they were before the call.
