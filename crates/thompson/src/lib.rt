@@ -31,7 +31,7 @@ use updates::{AccountOf, Entered};
 
 // A refusal's number and place, or 0 and the call's value.
 #[repr(C)]
-#[derive(Drop)]
+#[derive(Clone, Copy)]
 pub struct Answer {
     pub refusal: u64,
     pub value: u64,
@@ -40,7 +40,7 @@ pub struct Answer {
 // A filing's answer: a refusal's number and place, or 0 and the entry's number; 1 where that entry held the element
 // or its inverse before, else 0; and the word that this is said of, 0 where one word is filed.
 #[repr(C)]
-#[derive(Drop)]
+#[derive(Clone, Copy)]
 pub struct Filing {
     pub refusal: u64,
     pub value: u64,
