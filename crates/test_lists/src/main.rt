@@ -6,11 +6,13 @@
 
 use cases::counts::Counts;
 use cases::{counts, fields, parts};
-use libc::STDIN_FILENO;
 
 mod by_word;
 mod rows;
 mod tables;
+
+// The number of standard input.
+const STDIN: i32 = 0;
 
 // The most bytes of all rows, and of a list.
 const INPUT: usize = 524288;
@@ -54,7 +56,7 @@ fn lines(text: &[u8], kind: u8) -> Counts {
 
 // All rows, kind by kind.
 fn run(input: &mut [u8; INPUT]) {
-    let n = io::read_full(STDIN_FILENO, input);
+    let n = io::read_full(STDIN, input);
     let text = parts::front(input, n);
     counts::print(lines(text, b'l'), b"vectors");
     counts::print(lines(text, b't'), b"traps");

@@ -88,7 +88,7 @@ fn grown(comb: bool, numbers: &[u64; NUMBERS], summary: &[u16; NUMBERS]) -> bool
 fn unpacked(comb: bool, shape: &[u8; NODES + 1]) -> bool {
     let mut told = [BYTE; NODES + 1];
     put_shape(parts::front_mut(&mut told, NODES), MAX_CARETS, comb);
-    check::same(shape, &told)
+    shape == &told
 }
 
 // The counts after the largest comb or spine: packed, one caret more refused, called, unpacked, grown from one fewer.

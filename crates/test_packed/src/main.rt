@@ -6,11 +6,13 @@
 
 use cases::counts::Counts;
 use cases::{counts, fields, parts};
-use libc::STDIN_FILENO;
 
 mod bound;
 mod rows;
 mod values;
+
+// The number of standard input.
+const STDIN: i32 = 0;
 
 // The most bytes of all rows.
 const INPUT: usize = 163840;
@@ -45,7 +47,7 @@ fn lines(text: &[u8], traps: bool) -> Counts {
 
 // All rows, kind by kind, then the bound.
 fn run(input: &mut [u8; INPUT]) {
-    let n = io::read_full(STDIN_FILENO, input);
+    let n = io::read_full(STDIN, input);
     let text = parts::front(input, n);
     counts::print(lines(text, false), b"vectors");
     counts::print(lines(text, true), b"traps");
