@@ -1,4 +1,4 @@
-/* Thompson's group F: each element listed once. The calls of libthompson.a, which `rt staticlib thompson` proves and
+/* Thompson's group F: each element listed once. The calls of libthompson.a, which `make` proves and
    builds, for C and for anything that can call C on x86-64.
 
    Every call answers two numbers by value, a filing four. `refusal` is 0 where the call was accepted, and `value` is
