@@ -1,6 +1,6 @@
 -- Powers and scratch that fit: the loops of the tests, and what the engine asks where all tests pass. Assumes nothing.
 use mathlib.Core.Path.{◌≡◌, refl, sym, ◌∙◌, ap, subst}
-use mathlib.Core.Bool.{Bool, true, false, cond}
+use mathlib.Core.Bool.{Bool, true, false, not, cond}
 use mathlib.Core.List.{List, [], ◌∷◌}
 use Prim.Native.Nat.{ℕ, ◌+◌, ◌-◌, ◌≤◌, ◌<◌}
 use native.Mathlib.Numerals.{add-one}
@@ -8,7 +8,7 @@ use native.Mathlib.Omega.{arith}
 use lib.Dec.{T, eqb, ltb}
 use lib.ListN.{get_or, length, drop}
 use lib.Seq.{drop-cons, drop-length}
-use borrow.Author.Tests.{lt-ltb, le-ltb, ltb-false, eqb-true}
+use borrow.Author.Tests.{lt-ltb, le-ltb, ltb-false, eqb-true, not-false, not-true}
 use Rattle.lists.specs.Entries.{total}
 use Rattle.group.specs.Limits.{limit}
 use Rattle.group.specs.Powers.{exponent_sizes}
@@ -55,6 +55,13 @@ module _ (es : List ℕ) (i left : ℕ) (sum : total es + left ≡ limit + total
   sum_end l g =
       sym
       (ap (λ (t : Bool). cond t false true) (le-ltb limit (total es) (omega (arith, sum, ap total (none es i l g)))))
+
+-- What the branch on a negated test tells of it.
+pub passed : {t u : Bool} → t ≡ u → not t ≡ false → u ≡ true
+passed {t} e h = sym e ∙ not-false t h
+
+pub failed : {t u : Bool} → t ≡ u → not t ≡ true → u ≡ false
+failed {t} e h = sym e ∙ not-true t h
 
 -- Where two tests pass together: what each said.
 both : (t u : Bool) → cond t u false ≡ true → (t ≡ true) × (u ≡ true)
