@@ -1,15 +1,20 @@
-// Standard input, a word a line, to receipts on standard output: it reads, calls and writes; the crate `receipts` has
-// the rest. It answers a status: 0 where every word was accepted, 1 where one was refused, 2 where the input cannot be
+// An input, a word a line, to receipts on standard output: it reads, calls and writes; the crate `receipts` has the
+// rest. It answers a status: 0 where every word was accepted, 1 where one was refused, 2 where the input cannot be
 // read or the output cannot be written.
 #![tactic(auto)]
 
-use libc::{STDERR_FILENO, STDIN_FILENO, STDOUT_FILENO};
 use receipts::{LINE, OUTPUT, PART, Served, Serving};
 use refusals::Reply;
+use std::io::Read;
+
+// The numbers of standard output and standard error.
+const STDOUT: i32 = 1;
+
+const STDERR: i32 = 2;
 
 // Behind a turn: whether there may be more input, whether all went well, whether a word was refused, and what is kept
 // of the line that has begun.
-#[derive(Drop)]
+#[derive(Clone, Copy)]
 pub struct Turn {
     pub more: bool,
     pub well: bool,
@@ -19,7 +24,7 @@ pub struct Turn {
 }
 
 // Behind a write: whether the bytes are written, and whether a receipt among them is that of a refused word.
-#[derive(Drop)]
+#[derive(Clone, Copy)]
 pub struct Written {
     pub well: bool,
     pub refused: bool,
@@ -27,7 +32,7 @@ pub struct Written {
 
 // Says on standard error what went wrong.
 fn complain(remark: &[u8]) {
-    io::write_all(STDERR_FILENO, remark);
+    io::write_all(STDERR, remark);
 }
 
 // Whether receipts have that of a refused word: it has the letter r, and that of an accepted one has decimals, blanks
@@ -51,7 +56,7 @@ fn write(out: &[u8], n: usize) -> Written {
         };
     }
     let refused = has_refused(&out[0..n]);
-    let well = io::write_all(STDOUT_FILENO, &out[0..n]);
+    let well = io::write_all(STDOUT, &out[0..n]);
     if !well {
         complain(b"receipt: the output cannot be written\n");
     }
@@ -93,13 +98,17 @@ fn last(t: Turn, well: bool) -> Turn {
 }
 
 // One part of the input: read, served and written.
-fn take_part(part: &mut [u8], line: &mut [u8; LINE], out: &mut [u8], t: Turn) -> Turn {
-    let got = libc::read(STDIN_FILENO, part);
-    if got < 0 {
+fn take_part<R: Read>(
+    input: &mut R,
+    part: &mut [u8],
+    line: &mut [u8; LINE],
+    out: &mut [u8],
+    t: Turn,
+) -> Turn {
+    let Ok(n) = input.read(part) else {
         complain(b"receipt: the input cannot be read\n");
         return last(t, false);
-    }
-    let n = io::count(got, part);
+    };
     if n == 0 {
         return last(t, true);
     }
@@ -112,7 +121,13 @@ fn take_part(part: &mut [u8], line: &mut [u8; LINE], out: &mut [u8], t: Turn) ->
 
 // All parts of the input, from a line number on. A proved loop has to end, and nothing says that an input does: the
 // loop counts its turns down from a number that no run uses up.
-fn take_all(from: u64, part: &mut [u8], line: &mut [u8; LINE], out: &mut [u8]) -> Turn {
+fn take_all<R: Read>(
+    input: &mut R,
+    from: u64,
+    part: &mut [u8],
+    line: &mut [u8; LINE],
+    out: &mut [u8],
+) -> Turn {
     let mut t = Turn {
         more: true,
         well: true,
@@ -123,7 +138,7 @@ fn take_all(from: u64, part: &mut [u8], line: &mut [u8; LINE], out: &mut [u8]) -
     let mut turns = u64::MAX;
     while turns > 0 && t.more {
         turns -= 1;
-        t = take_part(part, line, out, t);
+        t = take_part(input, part, line, out, t);
     }
     t
 }
@@ -147,8 +162,14 @@ fn write_header(out: &mut [u8]) -> bool {
 }
 
 // The receipts of all parts, numbered from a number on, then that of a line that has no end.
-fn receive(from: u64, part: &mut [u8; PART], line: &mut [u8; LINE], out: &mut [u8; OUTPUT]) -> u8 {
-    let end = take_all(from, part, line, out);
+fn receive<R: Read>(
+    input: &mut R,
+    from: u64,
+    part: &mut [u8; PART],
+    line: &mut [u8; LINE],
+    out: &mut [u8; OUTPUT],
+) -> u8 {
+    let end = take_all(input, from, part, line, out);
     if !end.well {
         return 2;
     }
@@ -157,19 +178,18 @@ fn receive(from: u64, part: &mut [u8; PART], line: &mut [u8; LINE], out: &mut [u
     status(written.well, end.refused | written.refused)
 }
 
-// The receipts of standard input, numbered from a number on, with the header in front where that number is 1.
-pub fn run(from: u64) -> u8 {
+// The receipts of an input, numbered from a number on, with the header in front where that number is 1.
+pub fn run<R: Read>(input: &mut R, from: u64) -> u8 {
     let mut part = [0u8; PART];
     let mut line = [0u8; LINE];
     let mut out = [0u8; OUTPUT];
     if from == 1 && !write_header(&mut out) {
         return 2;
     }
-    receive(from, &mut part, &mut line, &mut out)
+    receive(input, from, &mut part, &mut line, &mut out)
 }
 
-// The receipt program for C: its status.
-#[unsafe(no_mangle)]
-pub extern "C" fn receipt_status() -> u8 {
-    run(1)
+// The receipt program: its status.
+pub fn receipt_status<R: Read>(input: &mut R) -> u8 {
+    run(input, 1)
 }
