@@ -1,6 +1,6 @@
 -- Along a walk over the numbers from a node on: each step inside a number takes it further.
---     Along xs from w    the walk from a node on has come to w         along-more    a step more
---     along_closed, along-ended    where the walk stops: nothing is to come, or the end is reached
+--     Along xs from w    the walk from a node on has come to w         along_more    a step more
+--     along_closed, along_ended    where the walk stops: nothing is to come, or the end is reached
 -- Assumes nothing.
 use mathlib.Core.Path.{◌≡◌, sym, ap, subst, ◌∙◌}
 use mathlib.Core.Logic.{inl, inr}

@@ -1,5 +1,5 @@
 -- The table of bytes (src/table.rt), by one computed test of its 256 entries.
---     byte_entries   the entries                 byte-table   they are the table that a walk reads
+--     byte_entries  the entries                 byte_table   they are the table that a walk reads
 -- Assumes nothing.
 use mathlib.Core.Path.{refl}
 use mathlib.Core.List.{List, [], ◌∷◌}

@@ -1,5 +1,5 @@
 -- The numbers of the grown shape behind that of node v: each two bits higher, with two nodes from the one before.
---     carry_first, carry-next   the two nodes that go on from the number of node v, and from a later one
+--     carry_first, carry_next   the two nodes that go on from the number of node v, and from a later one
 --     number_shifted            a later number of the grown shape
 -- Assumes nothing.
 use mathlib.Core.Path.{◌≡◌, refl, sym, ap, ◌∙◌}
@@ -41,7 +41,8 @@ carry_next s v i h l k = carry_at s v i h l (omega arith)
 
 -- Two nodes, and the others two bits up.
 two_first : (w : List ℕ) → Nodes w
-    → pack_number_value (take 64 w) ≡ pack_number_value (take 2 w) + (4 * pack_number_value (take 64 (drop 2 w))) % 2 ^ 64
+    → pack_number_value (take 64 w)
+    ≡ pack_number_value (take 2 w) + (4 * pack_number_value (take 64 (drop 2 w))) % 2 ^ 64
 two_first [] h = refl
 two_first (b ∷ []) h = omega arith
 two_first (b ∷ c ∷ w) h = omega (arith, shift_first b c w h.1.1)

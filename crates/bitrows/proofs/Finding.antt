@@ -1,7 +1,7 @@
 -- The numbers of a shape, one after another: how large they are, the carets up to each, and the leaves inside one.
 --     number_small, number_behind   a number has 64 bits, and behind the shape it is 0
---     total_next, total-few         the carets up to the next number; at most one to a node
---     found_leaf, bits-leaf         a leaf of a number's nodes, or of its bits, is a leaf of the shape
+--     total_next, total_few         the carets up to the next number; at most one to a node
+--     found_leaf, bits_leaf         a leaf of a number's nodes, or of its bits, is a leaf of the shape
 -- Assumes nothing.
 use mathlib.Core.Path.{◌≡◌, sym, ap, subst, ◌∙◌}
 use mathlib.Core.List.{List, ◌++◌}
@@ -75,8 +75,8 @@ bits_filled k u h l =
     ap (λ (n : ℕ). bits_of n (pack_number_value u)) e ∙ bits_pack u (k - length u) h
 
 -- A leaf among the bits of packed nodes, where there is a node.
-leaf_bits : (k l v : ℕ) (u : List ℕ) → Nodes u → length u ≤ k → v < length u → LeafAt (bits_of k (pack_number_value u)) l v
-    → LeafAt u l v
+leaf_bits : (k l v : ℕ) (u : List ℕ) → Nodes u → length u ≤ k → v < length u
+    → LeafAt (bits_of k (pack_number_value u)) l v → LeafAt u l v
 leaf_bits k l v u h m n a =
     leaf_front u (replicate (k - length u) 0) l v n (subst (λ (t : List ℕ). LeafAt t l v) (bits_filled k u h m) a)
 

@@ -1,7 +1,7 @@
 -- A caret and a leaf put in front of node v of a shape: what stands before stays, what stands behind goes two nodes on,
 -- and the number of node v is opened.
 --     inserted_before, inserted-behind   the grown shape from a place on, before v and behind it
---     number_before, number-opened       the numbers before that of node v, and its own
+--     number_before, number_opened       the numbers before that of node v, and its own
 --     opened_fits                        an opened number is a number of 64 bits
 -- Assumes nothing.
 use mathlib.Core.Path.{◌≡◌, refl, ap, ap₂, subst, ◌∙◌}
@@ -67,7 +67,8 @@ total_before s v i h l = ap total (inserted-first (64 * i) v s h l)
 -- Numbers before that of node v.
 pub number_before : (s : List ℕ) (v i : ℕ) → i < v / 64 → v ≤ length s → number_at (inserted s v) i ≡ number_at s i
 number_before s v i h l =
-    ap (λ (t : List ℕ). pack_number_value (take 64 t)) (inserted_before (64 * i) (v - 64 * i) v s (omega arith) (omega arith))
+    ap (λ (t : List ℕ). pack_number_value (take 64 t))
+    (inserted_before (64 * i) (v - 64 * i) v s (omega arith) (omega arith))
     ∙ ap pack_number_value
     (inserted-first 64 (v - 64 * i) (drop (64 * i) s) (omega arith) (omega (arith, length-drop (64 * i) s)))
 
@@ -93,10 +94,12 @@ pub first_opened : (p : ℕ) (u : List ℕ) → Nodes u → p < 64 → p ≤ len
     → pack_number_value (take 64 (inserted u p)) ≡ opened_number (pack_number_value (take 64 u)) p
 first_opened p u h l k = go (63 - p) refl
   where
-    go : (q : ℕ) → 63 - p ≡ q → pack_number_value (take 64 (inserted u p)) ≡ opened_number (pack_number_value (take 64 u)) p
+    go : (q : ℕ) → 63 - p ≡ q
+        → pack_number_value (take 64 (inserted u p)) ≡ opened_number (pack_number_value (take 64 u)) p
     go zero e =
         let d : 63 ≡ p = omega arith in
-        subst (λ (n : ℕ). pack_number_value (take 64 (inserted u n)) ≡ opened_number (pack_number_value (take 64 u)) n) d
+        subst (λ (n : ℕ). pack_number_value (take 64 (inserted u n))
+        ≡ opened_number (pack_number_value (take 64 u)) n) d
         (last_opened u h (omega arith))
     go (suc q) e =
         ap pack_number_value (opened_nodes p (suc (suc q)) u (omega arith) k) ∙ open_number p q u h (omega arith) k

@@ -1,7 +1,7 @@
 -- A walk over nodes: what is to come behind them, put together from parts; and the bits of numbers that a walk reads.
---     leaves-append   one part behind another          leaves-past   a part that closes fewer than are to come
---     leaves_node     one node                         nodes-part    a part of the nodes in numbers, inside one number
---     bits_append, bits-cut, bits-total                parts of the bits of a number, and the carets among them
+--     leaves-append   one part behind another          leaves_past   a part that closes fewer than are to come
+--     leaves_node     one node                         nodes_part    a part of the nodes in numbers, inside one number
+--     bits_append, bits_cut, bits_total                parts of the bits of a number, and the carets among them
 -- Assumes nothing.
 use mathlib.Core.Path.{◌≡◌, refl, sym, ap, ap₂, subst, ◌∙◌}
 use mathlib.Core.List.{List, [], ◌∷◌, ◌++◌, append_assoc}

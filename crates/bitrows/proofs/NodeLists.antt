@@ -71,7 +71,8 @@ unfolding values
 values-nodes zero [] h l = refl
 values-nodes zero (b ∷ s) h l = absurd (omega arith)
 values-nodes (suc m) s h l =
-    ap (λ (xs : List ℕ). take (length s) (bits_of 64 (pack_number_value (take 64 s)) ++ nodes_in xs)) (numbers_later m s)
+    ap (λ (xs : List ℕ). take (length s) (bits_of 64 (pack_number_value (take 64 s)) ++ nodes_in xs))
+    (numbers_later m s)
     ∙ number_nodes 64 s (nodes_in (values m (number_at (drop 64 s)))) h
     ∙ ap (λ (t : List ℕ). take 64 s ++ t)
     (values-nodes m (drop 64 s) (drop-nodes 64 s h) (omega (arith, length-drop 64 s)))

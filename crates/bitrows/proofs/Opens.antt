@@ -14,7 +14,8 @@ use Rattle.bitrows.proofs.Numbers.{pack_below, take-nodes, drop-nodes}
 use Rattle.bitrows.proofs.Shifts.{pack_above, drop-take}
 
 -- One list behind another.
-pub pack_append : (xs ys : List ℕ) → pack_number_value (xs ++ ys) ≡ pack_number_value xs + pack_number_value ys * 2 ^ length xs
+pub pack_append : (xs ys : List ℕ)
+    → pack_number_value (xs ++ ys) ≡ pack_number_value xs + pack_number_value ys * 2 ^ length xs
 pack_append [] ys = omega arith
 pack_append (b ∷ xs) ys =
     ap (λ (n : ℕ). b + 2 * n) (pack_append xs ys)

@@ -1,7 +1,7 @@
 -- Amid a number that a walk passes: what is behind, and what the next nodes, bytes or the whole number leave to come.
 --     Amid x at₀ p₀ end at p rest   from node at₀ with p₀ subtrees to come, node at is reached with p to come
---     amid_more                     some nodes more                 amid-reach    what the function answers
---     number_leaves, byte-leaves, node-leaves    what a whole number, a byte and a node leave
+--     amid_more                     some nodes more                 amid_reach    what the function answers
+--     number_leaves, byte_leaves, node_leaves    what a whole number, a byte and a node leave
 -- Assumes nothing.
 use mathlib.Core.Path.{◌≡◌, refl, sym, ap, ap₂, subst, ◌∙◌}
 use mathlib.Core.List.{List, [], ◌∷◌}

@@ -1,6 +1,6 @@
 -- Looking for leaf k among the bits of a number, from the lowest.
 --     Searching x k rest left node   the nodes below `node` are passed, and `left` leaves are still to pass
---     searching_found, searching-none   where the search stops
+--     searching_found, searching_none   where the search stops
 -- Assumes nothing.
 use mathlib.Core.Path.{◌≡◌, sym, ap, ◌∙◌}
 use Prim.Native.Nat.{ℕ, zero, suc, ◌+◌, ◌-◌, ◌/◌, ◌%◌, ◌^◌, ◌<◌, ◌≤◌}

@@ -1,7 +1,7 @@
 -- The nodes of a shape packed 64 to a number, the first node in the lowest bit, unused bits zero (02, [6]).
---     pack_number_value s    the number whose bits are the nodes s       bits_of k x    the k lowest bits of x, lowest first
---     number_at s j    number j of the shape s                     nodes_in xs    the bits of all the numbers xs
---     numbers_of_value n     how many numbers n nodes take
+--     pack_number_value s  the number whose bits are the nodes s  bits_of k x   the k lowest bits of x, lowest first
+--     number_at s j   number j of the shape s                     nodes_in xs   the bits of all the numbers xs
+--     numbers_of_value n  how many numbers n nodes take
 -- Assumes nothing.
 use Rattle.std.specs.Prelude.{List, [], ◌∷◌, ◌++◌, ℕ, zero, suc, ◌+◌, ◌*◌, ◌/◌, ◌%◌, take, drop}
 

@@ -14,7 +14,8 @@ use Rattle.calls.specs.DemandedOfLists.{ListToRecords, DemandedOfLists}
 use Rattle.calls.proofs.Always.{always_below}
 use Rattle.calls.proofs.Calls.{calls, exports}
 
-list_to_records_lem : {list : List ℕ} {m m' : Memory} {r : Reply} → Listed list m m' r → ListToRecords list m m' (reply_of r)
+list_to_records_lem : {list : List ℕ} {m m' : Memory} {r : Reply} → Listed list m m' r
+    → ListToRecords list m m' (reply_of r)
 list_to_records_lem {list} {m} {m'} {r} h =
     let first = demand1.list_to_records_lem list m m' r h in
     record {

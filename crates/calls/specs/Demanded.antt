@@ -1,18 +1,18 @@
 -- The three demands of document 01, with the calls of 02, [1] and [5], said of the functions themselves and of the
 -- exports for C and Rust: of what is lent to a call, of what it leaves, and of its answer. No contract stands in it.
 -- Read this file first; docs/DECISIONS.md quotes the demands as they were set. proofs/Demanded.antt has the proofs.
---     Always T f R      every call of the function f, on any arguments, returns, with R of its arguments as they were
+--     Always f R        every call of the function f, on any arguments, returns, with R of its arguments as they were
 --                       and as they are at exit, and of its answer; nothing is asked of the caller
 -- Letters: u, v bytes lent as a word; w, x words; s bytes lent as a record; m, k memory lent with a word or a text: b
 -- table, a table and record buffer, which are b, a, e of the first word and c, d, g of the second; p, q buffers for
 -- shapes; t bytes lent as a text, or a buffer for letters or a text; ps powers; r an answer, o an outcome or a
 -- decision; a ' marks the same at exit.
 -- The names used, what each is, and the crate and file of its specs that define it:
---     now x                       the elements of the slice behind the reference x                the kit, Denote/Ref
---     reply_of, verdict_of          an answer as accepted n, or as refused with number and place    refusals, Outcomes
---     decision_of                  same, inverse, different, or a refusal of word 0 or 1       comparisons, Comparing
---     outcome_of, decision_in       the same of the two numbers that an export answers              thompson, Codes
---     code_of_decision              the two numbers of a decision: 1 same, 2 inverse, 0 different   thompson, Codes
+--     x.now                       the elements of the slice behind the reference x                the kit, Denote/Ref
+--     reply_of, verdict_of        an answer as accepted n, or as refused with number and place    refusals, Outcomes
+--     decision_of                 same, inverse, different, or a refusal of word 0 or 1       comparisons, Comparing
+--     outcome_of, decision_in     the same of the two numbers that an export answers              thompson, Codes
+--     code_of_decision            the two numbers of a decision: 1 same, 2 inverse, 0 different   thompson, Codes
 --     Refuses o R                 each refusal is o just when its condition R holds               claims, Answers
 --     RefusesWords d R S          the same of two words, the first word's refusals first          claims, Answers
 --     IsRefused, WordRefused, Answered, None R    a refusal; a verdict; no condition              claims, Answers
@@ -20,11 +20,11 @@
 --     TextRefusal, PhraseRefusal  the same of a text; of a record that is to be written as text   claims, Refusals
 --     RecordOfWord, PairOfRecord, LengthOfRecord, WordOfRecord, VerdictOfWords    what is given   claims, Given
 --     RecordOfText, TextOfRecord  the same of the calls on texts                                  claims, Given
---     text_of ps, AllInRange ps    the text of powers; indices and exponents are allowed           tokens, Texts, Tokens
---     product_letters ps           the letters that powers are read through                        group, Powers
+--     text_of ps, AllInRange ps   the text of powers; indices and exponents are allowed           tokens, Texts, Tokens
+--     product_letters ps          the letters that powers are read through                        group, Powers
 --     Within f                    indices and exponents of the form f are within the limit        records, Format
 --     IsRecord s f                s is the record of the form f                                   records, Format
---     Word, bytes_of w             a string of letters; its bytes, one a letter                    group, Letters, Bytes
+--     Word, bytes_of w            a string of letters; its bytes, one a letter                    group, Letters, Bytes
 --     Joined w x                  a chain of steps, each with one of eight strings, joins w to x  group, Chains
 --     limit                       4,096                                                           group, Limits
 -- Assumes nothing.
@@ -49,24 +49,11 @@ use Rattle.claims.specs.Refusals.{WordRefusal, RecordRefusal, PairRefusal, Spell
 use Rattle.claims.specs.Given.{RecordOfWord, PairOfRecord, LengthOfRecord, WordOfRecord, VerdictOfWords}
 use Rattle.claims.specs.Given.{RecordOfText, TextOfRecord}
 use Rattle.calls.specs.Always.{Always}
-use Rattle.words.proofs.word_to_record as word_to_record_lem
-use Rattle.comparisons.proofs.same_element as same_element_lem
-use Rattle.records.proofs.check_record as check_record_lem
-use Rattle.pairs.proofs.record_to_tree_pair as record_to_tree_pair_lem
-use Rattle.pairs.proofs.record_to_length as record_to_length_lem
-use Rattle.pairs.proofs.record_to_label_length as record_to_label_length_lem
-use Rattle.spelling.proofs.record_to_word as record_to_word_lem
-use Rattle.notation.proofs.text_to_record as text_to_record_lem
-use Rattle.notation.proofs.record_to_text as record_to_text_lem
-use Rattle.thompson.proofs.thompson_word_to_record as thompson-word-to-record
-use Rattle.thompson.proofs.thompson_same_element as thompson-same-element
-use Rattle.thompson.proofs.thompson_check_record as thompson-check-record
-use Rattle.thompson.proofs.thompson_record_to_tree_pair as thompson-record-to-tree-pair
-use Rattle.thompson.proofs.thompson_record_to_length as thompson-record-to-length
-use Rattle.thompson.proofs.thompson_record_to_label_length as thompson-record-to-label-length
-use Rattle.thompson.proofs.thompson_record_to_word as thompson-record-to-word
-use Rattle.thompson.proofs.thompson_text_to_record as thompson-text-to-record
-use Rattle.thompson.proofs.thompson_record_to_text as thompson-record-to-text
+use Rattle.calls.specs.Functions.{word_to_record, check_record, record_to_tree_pair, record_to_length}
+use Rattle.calls.specs.Functions.{record_to_label_length, record_to_word, same_element, text_to_record, record_to_text}
+use Rattle.calls.specs.Functions.{thompson_word_to_record, thompson_check_record, thompson_record_to_tree_pair}
+use Rattle.calls.specs.Functions.{thompson_record_to_length, thompson_record_to_label_length, thompson_record_to_word}
+use Rattle.calls.specs.Functions.{thompson_same_element, thompson_text_to_record, thompson_record_to_text}
 
 -- What demands 1 (`refuses`, `unaltered`) and 2 (`gives`, `accepts`) say of one call. Word to record.
 pub record WordToRecord (u : List ℕ) (m m' : Memory) (o : Outcome ℕ) : Type 0 where
@@ -117,53 +104,53 @@ pub record TwoWords (u : List ℕ) (m m' : Memory) (v : List ℕ) (k k' : Memory
 
 -- Demands 1 and 2 of the nine functions.
 pub record Demanded : Type 2 where
-  pub word_to_record_lem : Always word_to_record_lem.ended word_to_record_lem.Symbol.routine
+  pub word_to_record_lem : Always word_to_record
       (λ κs u u' b b' a a' e e' r. WordToRecord u.now (memory b.now a.now e.now)
       (memory b'.now a'.now e'.now) (reply_of r))
-  pub check_record_lem : Always check_record_lem.ended check_record_lem.Symbol.routine
+  pub check_record_lem : Always check_record
       (λ κs s s' r. CheckRecord s.now (verdict_of r))
-  pub record_to_tree_pair_lem : Always record_to_tree_pair_lem.ended record_to_tree_pair_lem.Symbol.routine
+  pub record_to_tree_pair_lem : Always record_to_tree_pair
       (λ κs s s' p p' q q' r. RecordToTreePair s.now p.now q.now p'.now q'.now (reply_of r))
-  pub record_to_length_lem : Always record_to_length_lem.ended record_to_length_lem.Symbol.routine
+  pub record_to_length_lem : Always record_to_length
       (λ κs s s' r. RecordToLength s.now (reply_of r))
-  pub record_to_label_length_lem : Always record_to_label_length_lem.ended record_to_label_length_lem.Symbol.routine
+  pub record_to_label_length_lem : Always record_to_label_length
       (λ κs s s' r. RecordToLength s.now (reply_of r))
-  pub record_to_word_lem : Always record_to_word_lem.ended record_to_word_lem.Symbol.routine
+  pub record_to_word_lem : Always record_to_word
       (λ κs s s' t t' r. RecordToWord s.now t.now t'.now (reply_of r))
-  pub same_element_lem : Always same_element_lem.ended same_element_lem.Symbol.routine
+  pub same_element_lem : Always same_element
       (λ κs u u' b b' a a' e e' v v' c c' d d' g g' r. TwoWords
       u.now (memory b.now a.now e.now) (memory b'.now a'.now e'.now)
       v.now (memory c.now d.now g.now) (memory c'.now d'.now g'.now) (decision_of r))
-  pub text_to_record_lem : Always text_to_record_lem.ended text_to_record_lem.Symbol.routine
+  pub text_to_record_lem : Always text_to_record
       (λ κs t t' b b' a a' e e' r. TextToRecord t.now (memory b.now a.now e.now)
       (memory b'.now a'.now e'.now) (reply_of r))
-  pub record_to_text_lem : Always record_to_text_lem.ended record_to_text_lem.Symbol.routine
+  pub record_to_text_lem : Always record_to_text
       (λ κs s s' t t' r. RecordToText s.now t.now t'.now (reply_of r))
 
 -- The same of the exports; the numbers on two words are just those of the decision that is read in them.
 pub record DemandedOfExports : Type 2 where
-  pub word_to_record_lem : Always thompson-word-to-record.ended thompson-word-to-record.Symbol.routine
+  pub word_to_record_lem : Always thompson_word_to_record
       (λ κs u u' b b' a a' e e' r. WordToRecord u.now (memory b.now a.now e.now)
       (memory b'.now a'.now e'.now) (outcome_of r))
-  pub check_record_lem : Always thompson-check-record.ended thompson-check-record.Symbol.routine
+  pub check_record_lem : Always thompson_check_record
       (λ κs s s' r. CheckRecord s.now (outcome_of r))
-  pub record_to_tree_pair_lem : Always thompson-record-to-tree-pair.ended thompson-record-to-tree-pair.Symbol.routine
+  pub record_to_tree_pair_lem : Always thompson_record_to_tree_pair
       (λ κs s s' p p' q q' r. RecordToTreePair s.now p.now q.now p'.now q'.now (outcome_of r))
-  pub record_to_length_lem : Always thompson-record-to-length.ended thompson-record-to-length.Symbol.routine
+  pub record_to_length_lem : Always thompson_record_to_length
       (λ κs s s' r. RecordToLength s.now (outcome_of r))
-  pub record_to_label_length_lem : Always thompson-record-to-label-length.ended
-      thompson-record-to-label-length.Symbol.routine (λ κs s s' r. RecordToLength s.now (outcome_of r))
-  pub record_to_word_lem : Always thompson-record-to-word.ended thompson-record-to-word.Symbol.routine
+  pub record_to_label_length_lem : Always thompson_record_to_label_length
+      (λ κs s s' r. RecordToLength s.now (outcome_of r))
+  pub record_to_word_lem : Always thompson_record_to_word
       (λ κs s s' t t' r. RecordToWord s.now t.now t'.now (outcome_of r))
-  pub same_element_lem : Always thompson-same-element.ended thompson-same-element.Symbol.routine
+  pub same_element_lem : Always thompson_same_element
       (λ κs u u' b b' a a' e e' v v' c c' d d' g g' r. TwoWords
       u.now (memory b.now a.now e.now) (memory b'.now a'.now e'.now)
       v.now (memory c.now d.now g.now) (memory c'.now d'.now g'.now) (decision_in r)
       × (r ≡ code_of_decision (decision_in r)))
-  pub text_to_record_lem : Always thompson-text-to-record.ended thompson-text-to-record.Symbol.routine
+  pub text_to_record_lem : Always thompson_text_to_record
       (λ κs t t' b b' a a' e e' r. TextToRecord t.now (memory b.now a.now e.now)
       (memory b'.now a'.now e'.now) (outcome_of r))
-  pub record_to_text_lem : Always thompson-record-to-text.ended thompson-record-to-text.Symbol.routine
+  pub record_to_text_lem : Always thompson_record_to_text
       (λ κs s s' t t' r. RecordToText s.now t.now t'.now (outcome_of r))
 
 -- The reduced form with the word's map is within the limits: so it is of every word of at most as many letters as the
@@ -182,29 +169,29 @@ pub record OneRecord : Type 2 where
   pub record_of : Word → List ℕ
   pub equal_just_when_joined : (w x : Word) → Fits w → Fits x → (record_of w ≡ record_of x) ↔ Joined w x
   pub short_fits : (w : Word) → length w ≤ limit → Fits w
-  pub written : Always word_to_record_lem.ended word_to_record_lem.Symbol.routine (λ κs u u' b b' a a' e e' r.
+  pub written : Always word_to_record (λ κs u u' b b' a a' e e' r.
       (w : Word) (n : ℕ) → u.now ≡ bytes_of w → reply_of r ≡ accepted n
       → (length w ≤ limit) × (take n e'.now ≡ record_of w))
-  pub exported : Always thompson-word-to-record.ended thompson-word-to-record.Symbol.routine
+  pub exported : Always thompson_word_to_record
       (λ κs u u' b b' a a' e e' r. (w : Word) (n : ℕ) → u.now ≡ bytes_of w → outcome_of r ≡ accepted n
       → (length w ≤ limit) × (take n e'.now ≡ record_of w))
-  pub written_text : Always text_to_record_lem.ended text_to_record_lem.Symbol.routine (λ κs t t' b b' a a' e e' r.
+  pub written_text : Always text_to_record (λ κs t t' b b' a a' e e' r.
       (ps : List SignedPower) (n : ℕ) → t.now ≡ text_of ps → reply_of r ≡ accepted n
       → Fits (product_letters ps) × (take n e'.now ≡ record_of (product_letters ps)))
-  pub exported_text : Always thompson-text-to-record.ended thompson-text-to-record.Symbol.routine
+  pub exported_text : Always thompson_text_to_record
       (λ κs t t' b b' a a' e e' r. (ps : List SignedPower) (n : ℕ) → t.now ≡ text_of ps → outcome_of r ≡ accepted n
       → Fits (product_letters ps) × (take n e'.now ≡ record_of (product_letters ps)))
-  pub spelled : Always record_to_word_lem.ended record_to_word_lem.Symbol.routine (λ κs s s' t t' r.
+  pub spelled : Always record_to_word (λ κs s s' t t' r.
       (n : ℕ) → reply_of r ≡ accepted n
       → (x : Word) × (take n t'.now ≡ bytes_of x) × (length x ≤ limit) × (record_of x ≡ s.now))
-  pub spelled_exported : Always thompson-record-to-word.ended thompson-record-to-word.Symbol.routine
+  pub spelled_exported : Always thompson_record_to_word
       (λ κs s s' t t' r. (n : ℕ) → outcome_of r ≡ accepted n
       → (x : Word) × (take n t'.now ≡ bytes_of x) × (length x ≤ limit) × (record_of x ≡ s.now))
-  pub phrased : Always record_to_text_lem.ended record_to_text_lem.Symbol.routine (λ κs s s' t t' r.
+  pub phrased : Always record_to_text (λ κs s s' t t' r.
       (n : ℕ) → reply_of r ≡ accepted n
       → (ps : List SignedPower) × (take n t'.now ≡ text_of ps) × Fits (product_letters ps)
       × (record_of (product_letters ps) ≡ s.now))
-  pub phrased_exported : Always thompson-record-to-text.ended thompson-record-to-text.Symbol.routine
+  pub phrased_exported : Always thompson_record_to_text
       (λ κs s s' t t' r. (n : ℕ) → outcome_of r ≡ accepted n
       → (ps : List SignedPower) × (take n t'.now ≡ text_of ps) × Fits (product_letters ps)
       × (record_of (product_letters ps) ≡ s.now))

@@ -5,11 +5,11 @@
 -- Letters: `list` bytes lent as a list; m memory lent with it, b, a and e its parts; r an answer, o an outcome; a '
 -- marks the same at exit.
 -- The names used, what each is, and the crate and file of its specs that define it:
---     reply_of                 the outcome of an answer                           refusals, Outcomes
---     outcome_of               what a caller reads in the numbers of an export    thompson, Codes
+--     reply_of                the outcome of an answer                           refusals, Outcomes
+--     outcome_of              what a caller reads in the numbers of an export    thompson, Codes
 --     ListRefusal list m      the conditions of 6 and 7                          claims, Lists
---     lines_of list            the lines                                          lines, Lines
---     LineCall, lines_called   calls of `word_to_record`, and their lines         claims, Lists
+--     lines_of list           the lines                                          lines, Lines
+--     LineCall, lines_called  calls of `word_to_record`, and their lines         claims, Lists
 --     CallsFrom               such calls, the tables handed on                   claims, Lists
 --     SameAsCalls             the tables and the bytes are what they leave and give   claims, Lists
 --     EntryBehind             an entry of the tables is that of the last accepted word that reaches it   claims, Lists
@@ -22,8 +22,7 @@ use Rattle.thompson.specs.Codes.{outcome_of}
 use Rattle.claims.specs.Answers.{Refuses, IsRefused}
 use Rattle.claims.specs.Lists.{ListRefusal, LineCall, lines_called, CallsFrom, SameAsCalls, EntryBehind}
 use Rattle.calls.specs.Always.{Always}
-use Rattle.wordlists.proofs.list_to_records as list_to_records_lem
-use Rattle.thompson.proofs.thompson_list_to_records as thompson-list-to-records
+use Rattle.calls.specs.Functions.{list_to_records, thompson_list_to_records}
 
 -- Many words in one call: refused by 6 and 7 with nothing altered, and else as one call a word.
 pub record ListToRecords (list : List ℕ) (m m' : Memory) (o : Outcome ℕ) : Type 0 where
@@ -35,9 +34,9 @@ pub record ListToRecords (list : List ℕ) (m m' : Memory) (o : Outcome ℕ) : T
 
 -- The function, then the export.
 pub record DemandedOfLists : Type 2 where
-  pub list_to_records_lem : Always list_to_records_lem.ended list_to_records_lem.Symbol.routine
+  pub list_to_records_lem : Always list_to_records
       (λ κs l l' b b' a a' e e' r. ListToRecords l.now (memory b.now a.now e.now)
       (memory b'.now a'.now e'.now) (reply_of r))
-  pub exported_list_to_records : Always thompson-list-to-records.ended thompson-list-to-records.Symbol.routine
+  pub exported_list_to_records : Always thompson_list_to_records
       (λ κs l l' b b' a a' e e' r. ListToRecords l.now (memory b.now a.now e.now)
       (memory b'.now a'.now e'.now) (outcome_of r))

@@ -5,9 +5,9 @@
 -- Letters: u bytes lent as a word; m memory lent with it, b, a and e its parts; h a holder; s the register's bytes; r
 -- an answer, o an outcome; a ' marks the same at exit.
 -- The names used, what each is, and the crate and file of its specs that define it:
---     replied_of, entered_of        a filing's answer as accepted, or refused with number and place   updates, Entering
---     live_of, reply_in, outcome_of  the live count; what a caller reads in the numbers of an export   thompson, Codes
---     code_of_reply                 the four numbers of a filing's reply                              thompson, Codes
+--     replied_of, entered_of      a filing's answer as accepted, or refused with number and place   updates, Entering
+--     live_of, reply_in, outcome_of  the live count; what a caller reads in the numbers of an export  thompson, Codes
+--     code_of_reply               the four numbers of a filing's reply                              thompson, Codes
 --     RegisterRefusal, EnterRefusal   the conditions, one by one                                    claims, Registers
 --     IsRegister s                the bytes are some register                                       claims, Registers
 --     WellFormed s q              the bytes are the register q                                  registers, WellFormed
@@ -30,12 +30,8 @@ use Rattle.claims.specs.Answers.{Refuses, IsRefused}
 use Rattle.claims.specs.Registers.{IsRegister, RegisterRefusal, EnterRefusal, EnteredAs, OnlyNew, StoredSmaller}
 use Rattle.claims.specs.Registers.{Charged}
 use Rattle.calls.specs.Always.{Always}
-use Rattle.registers.proofs.check_register as check_register_lem
-use Rattle.updates.proofs.enter_word as enter_word_lem
-use Rattle.updates.proofs.account_of as account_of_is
-use Rattle.thompson.proofs.thompson_enter_word as thompson-enter-word
-use Rattle.thompson.proofs.thompson_check_register as thompson-check-register
-use Rattle.thompson.proofs.thompson_live_entries as thompson-live-entries
+use Rattle.calls.specs.Functions.{check_register, enter_word, account_of, thompson_enter_word, thompson_check_register}
+use Rattle.calls.specs.Functions.{thompson_live_entries}
 
 -- Register check; nothing is lent to write to.
 pub record CheckRegister (s : List ℕ) (o : Outcome ℕ) : Type 0 where
@@ -59,18 +55,18 @@ pub record LiveEntries (s : List ℕ) (h : ℕ) (o : Outcome ℕ) : Type 0 where
 
 -- The functions, then the exports; the numbers of a filing are just those of the reply that is read in them.
 pub record DemandedOfRegisters : Type 2 where
-  pub check_register_lem : Always check_register_lem.ended check_register_lem.Symbol.routine
+  pub check_register_lem : Always check_register
       (λ κs s s' r. CheckRegister s.now (verdict_of r))
-  pub enter_word_lem : Always enter_word_lem.ended enter_word_lem.Symbol.routine
+  pub enter_word_lem : Always enter_word
       (λ κs u u' b b' a a' e e' h h' s s' r. EnterWord u.now (memory b.now a.now e.now)
       (memory b'.now a'.now e'.now) h s.now s'.now (replied_of r)
       × ((x : Answer) → entered_of r ≡ accepted x → Charged h s.now s'.now x))
-  pub account_of_is : Always account_of_is.ended account_of_is.Symbol.routine
+  pub account_of_is : Always account_of
       (λ κs s s' h h' r. LiveEntries s.now h (live_of r))
-  pub exported_check_register : Always thompson-check-register.ended thompson-check-register.Symbol.routine
+  pub exported_check_register : Always thompson_check_register
       (λ κs s s' r. CheckRegister s.now (outcome_of r))
-  pub exported_enter_word : Always thompson-enter-word.ended thompson-enter-word.Symbol.routine
+  pub exported_enter_word : Always thompson_enter_word
       (λ κs u u' b b' a a' e e' h h' s s' r. EnterWord u.now (memory b.now a.now e.now)
       (memory b'.now a'.now e'.now) h s.now s'.now (reply_in r) × (r ≡ code_of_reply (reply_in r)))
-  pub exported_live_entries : Always thompson-live-entries.ended thompson-live-entries.Symbol.routine
+  pub exported_live_entries : Always thompson_live_entries
       (λ κs s s' h h' r. LiveEntries s.now h (outcome_of r))

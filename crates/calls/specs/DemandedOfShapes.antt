@@ -4,9 +4,9 @@
 -- Letters: s bytes lent as a shape, or a buffer for one; x, y numbers and summary; k a node or a leaf; r an answer, o
 -- an outcome; a ' marks the same at exit.
 -- The names used, what each is, and the crate and file of its specs that define it:
---     reply_of                 the outcome of an answer                                             refusals, Outcomes
---     node_end_of               the same of an answer that is a node                                 packed, Answers
---     outcome_of               what a caller reads in the numbers of an export                      thompson, Codes
+--     reply_of                the outcome of an answer                                             refusals, Outcomes
+--     node_end_of             the same of an answer that is a node                                 packed, Answers
+--     outcome_of              what a caller reads in the numbers of an export                      thompson, Codes
 --     PackRefusal, UnpackRefusal, NodeRefusal, GrowRefusal    the conditions of 15 and 7           claims, Packed
 --     PackGiven, UnpackGiven, CaretsGiven, EndGiven, GrowGiven    what is given                    claims, Packed
 -- Assumes nothing.
@@ -18,16 +18,9 @@ use Rattle.claims.specs.Answers.{Refuses, IsRefused}
 use Rattle.claims.specs.Packed.{PackRefusal, UnpackRefusal, NodeRefusal, GrowRefusal}
 use Rattle.claims.specs.Packed.{PackGiven, UnpackGiven, CaretsGiven, EndGiven, GrowGiven}
 use Rattle.calls.specs.Always.{Always}
-use Rattle.packed.proofs.pack_shape as pack_shape_lem
-use Rattle.packed.proofs.unpack_shape as unpack_shape_lem
-use Rattle.packed.proofs.carets_before as carets_before_lem
-use Rattle.packed.proofs.subtree_end as subtree_end_lem
-use Rattle.growing.proofs.grow_caret as grow_caret_lem
-use Rattle.thompson.proofs.thompson_pack_shape as thompson-pack-shape
-use Rattle.thompson.proofs.thompson_unpack_shape as thompson-unpack-shape
-use Rattle.thompson.proofs.thompson_carets_before as thompson-carets-before
-use Rattle.thompson.proofs.thompson_subtree_end as thompson-subtree-end
-use Rattle.thompson.proofs.thompson_grow_caret as thompson-grow-caret
+use Rattle.calls.specs.Functions.{pack_shape, unpack_shape, carets_before, subtree_end, grow_caret, thompson_pack_shape}
+use Rattle.calls.specs.Functions.{thompson_unpack_shape, thompson_carets_before, thompson_subtree_end}
+use Rattle.calls.specs.Functions.{thompson_grow_caret}
 
 -- A shape packed.
 pub record PackShape (s x y x' y' : List ℕ) (o : Outcome ℕ) : Type 0 where
@@ -59,23 +52,23 @@ pub record GrowCaret (x y x' y' : List ℕ) (k : ℕ) (o : Outcome ℕ) : Type 0
 
 -- The functions, then the exports.
 pub record DemandedOfShapes : Type 2 where
-  pub pack_shape_lem : Always pack_shape_lem.ended pack_shape_lem.Symbol.routine
+  pub pack_shape_lem : Always pack_shape
       (λ κs s s' x x' y y' r. PackShape s.now x.now y.now x'.now y'.now (reply_of r))
-  pub unpack_shape_lem : Always unpack_shape_lem.ended unpack_shape_lem.Symbol.routine
+  pub unpack_shape_lem : Always unpack_shape
       (λ κs x x' y y' s s' r. UnpackShape x.now y.now s.now s'.now (reply_of r))
-  pub carets_before_lem : Always carets_before_lem.ended carets_before_lem.Symbol.routine
+  pub carets_before_lem : Always carets_before
       (λ κs x x' y y' k k' r. CaretsBefore x.now y.now k.0 (reply_of r))
-  pub subtree_end_lem : Always subtree_end_lem.ended subtree_end_lem.Symbol.routine
+  pub subtree_end_lem : Always subtree_end
       (λ κs x x' y y' k k' r. SubtreeEnd x.now y.now k.0 (node_end_of r))
-  pub grow_caret_lem : Always grow_caret_lem.ended grow_caret_lem.Symbol.routine
+  pub grow_caret_lem : Always grow_caret
       (λ κs x x' y y' k k' r. GrowCaret x.now y.now x'.now y'.now k.0 (reply_of r))
-  pub exported_pack_shape : Always thompson-pack-shape.ended thompson-pack-shape.Symbol.routine
+  pub exported_pack_shape : Always thompson_pack_shape
       (λ κs s s' x x' y y' r. PackShape s.now x.now y.now x'.now y'.now (outcome_of r))
-  pub exported_unpack_shape : Always thompson-unpack-shape.ended thompson-unpack-shape.Symbol.routine
+  pub exported_unpack_shape : Always thompson_unpack_shape
       (λ κs x x' y y' s s' r. UnpackShape x.now y.now s.now s'.now (outcome_of r))
-  pub exported_carets_before : Always thompson-carets-before.ended thompson-carets-before.Symbol.routine
+  pub exported_carets_before : Always thompson_carets_before
       (λ κs x x' y y' k k' r. CaretsBefore x.now y.now k (outcome_of r))
-  pub exported_subtree_end : Always thompson-subtree-end.ended thompson-subtree-end.Symbol.routine
+  pub exported_subtree_end : Always thompson_subtree_end
       (λ κs x x' y y' k k' r. SubtreeEnd x.now y.now k (outcome_of r))
-  pub exported_grow_caret : Always thompson-grow-caret.ended thompson-grow-caret.Symbol.routine
+  pub exported_grow_caret : Always thompson_grow_caret
       (λ κs x x' y y' k k' r. GrowCaret x.now y.now x'.now y'.now k (outcome_of r))

@@ -1,5 +1,6 @@
 -- The demands said of the functions, and one theorem of all claims: start with Demanded.
 pub mod Always
+pub mod Functions
 pub mod Demanded
 pub mod DemandedOfLists
 pub mod DemandedOfRegisters

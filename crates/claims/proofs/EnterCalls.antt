@@ -23,7 +23,8 @@ use Rattle.registers.proofs.WellFormed.{holds_well_formed, reads_well_formed}
 use Rattle.registers.proofs.Written.{register_written}
 use Rattle.updates.specs.Accounts.{account_in}
 use Rattle.updates.specs.Entering.{new_entry, present, reply_number, stored_form, with_entry, Found, grown, kept}
-use Rattle.updates.specs.Entering.{entered_in, register_after, Answer, answer_of, entered_of, number_of_entered, EnteredWord}
+use Rattle.updates.specs.Entering.{entered_in, register_after, Answer, answer_of, entered_of}
+use Rattle.updates.specs.Entering.{number_of_entered, EnteredWord}
 use Rattle.updates.specs.declared.Entered.{Entered}
 use Rattle.updates.proofs.StoredForms.{stored_read}
 use Rattle.updates.proofs.Following.{grown-holds}

@@ -95,7 +95,8 @@ module _ (u : List ℕ) (m : Memory) (h : ℕ) (s : List ℕ) (bytes : Bytes s) 
             low : (number_most < q.last + 1 → ⊥) → q.last < number_most
             low n = omega (arith, n)
 
-            fits : (length s < length (register_bytes q) + (head_size + entry_base + length (encode (stored_form w))) → ⊥)
+            fits : (length s < length (register_bytes q) + (head_size + entry_base + length (encode (stored_form w)))
+                → ⊥)
                 → length (register_bytes q) + (head_size + entry_base + length (encode (stored_form w))) ≤ length s
             fits n = omega (arith, n)
 

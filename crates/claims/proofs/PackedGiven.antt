@@ -1,8 +1,8 @@
 -- What the calls on packed shapes give where they are not refused: `ShapesGiven` of specs/Packed.antt, proved.
---     repacked_fits, placed-fits   what a call that packs a shape, that places its bytes, leaves and answers
+--     repacked_fits, placed_fits   what a call that packs a shape, that places its bytes, leaves and answers
 --     packed_over                  what one that packs the shape of a tree leaves and answers
---     pack_given, unpack-given, end-given, grow-given   what each call gives
---     answers_shape, nodes-before  what is answered for a node, and which nodes its subtree has
+--     pack_given, unpack_given, end_given, grow_given   what each call gives
+--     answers_shape, nodes_before  what is answered for a node, and which nodes its subtree has
 -- Assumes nothing.
 use mathlib.Core.Path.{◌≡◌, refl, sym, ap, subst, ◌∙◌}
 use mathlib.Core.List.{List, [], ◌∷◌, ◌++◌}
@@ -58,7 +58,8 @@ filled-behind m f t = drop_at (values m f) (drop m t) m (values_length m f)
 -- The numbers and the summary that a call leaves that packs the shape s.
 repacked_rows : {o : Outcome (List ℕ)} {s xs ys xs' ys' : List ℕ} {r : Reply} → Repacked o xs ys xs' ys' r
     → o ≡ accepted s
-    → (xs' ≡ filled (numbers_of_value (length s)) (number_at s) xs) × (ys' ≡ filled (numbers_of_value (length s)) (summary_at s) ys)
+    → (xs' ≡ filled (numbers_of_value (length s)) (number_at s) xs)
+    × (ys' ≡ filled (numbers_of_value (length s)) (summary_at s) ys)
 repacked_rows {o} {s} {xs} {ys} h e =
     (h.numbers_left ∙ ap (row_after xs number_at) e, h.summary_left ∙ ap (row_after ys summary_at) e)
 

@@ -2,7 +2,7 @@
 -- specs/Packed.antt.
 --     ShapeRead s, PackedRead xs ys   what is judged of bytes, of numbers and a summary, in each of its cases
 --     of_tree         a judgement of a packed shape is one of its tree's shape
---     pack_refused, unpack-refused, node-refused, grow-refused   the calls refuse just under these conditions
+--     pack_refused, unpack_refused, node_refused, grow_refused   the calls refuse just under these conditions
 -- Assumes nothing.
 use mathlib.Core.Path.{◌≡◌, refl, sym, ap, ap₂, subst, ◌∙◌}
 use mathlib.Core.Bool.{Bool, true, false, cond}

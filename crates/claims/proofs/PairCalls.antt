@@ -50,8 +50,8 @@ module _ (s : List ℕ) (m p : ℕ) where
       → paired_in s m p ≡ refused 7 0
   short_plus f e g h = rw e (simp (le-ltb m (shape_size (carets_of f)) g, lt-ltb p (shape_size (carets_of f)) h))
 
-  short_of : Bytes s → (f : Form) → decode s ≡ accepted f → (m < shape_size (carets_of f)) ⊎ (p < shape_size (carets_of f))
-      → ShortShape s m p
+  short_of : Bytes s → (f : Form) → decode s ≡ accepted f
+      → (m < shape_size (carets_of f)) ⊎ (p < shape_size (carets_of f)) → ShortShape s m p
   short_of bytes f e h = record {
     form = f;
     is_record = (decoded↔record s f bytes).0 e;
@@ -69,8 +69,8 @@ module _ (s : List ℕ) (m p : ℕ) where
   find : Bytes s → Found s m p
   find bytes = go (decode s) refl
     where
-      fits : (f : Form) → decode s ≡ accepted f → Dec (m < shape_size (carets_of f)) → Dec (p < shape_size (carets_of f))
-          → Found s m p
+      fits : (f : Form) → decode s ≡ accepted f → Dec (m < shape_size (carets_of f))
+          → Dec (p < shape_size (carets_of f)) → Found s m p
       fits f e (yes h) d = too_short (short_of bytes f e (inl h)) (short_minus f e h)
       fits f e (no h) (yes k) = too_short (short_of bytes f e (inr k)) (short_plus f e (omega arith) k)
       fits f e (no h) (no k) =

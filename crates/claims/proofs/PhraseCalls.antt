@@ -43,8 +43,8 @@ data Found (s out : List ℕ) : Type 0 where
   unreadable : (n p : ℕ) → decode s ≡ refused n p → text_in s out ≡ refused n p → Found s out
   too_short : (f : Form) → decode s ≡ accepted f → length out < length (form_text f) → text_in s out ≡ refused 7 0
       → Found s out
-  found : (f : Form) → decode s ≡ accepted f → length (form_text f) ≤ length out → text_in s out ≡ accepted (form_text f)
-      → Found s out
+  found : (f : Form) → decode s ≡ accepted f → length (form_text f) ≤ length out
+      → text_in s out ≡ accepted (form_text f) → Found s out
 
 module _ (s out : List ℕ) where
   -- A record that is read, beside the buffer.

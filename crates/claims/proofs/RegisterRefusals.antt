@@ -10,7 +10,8 @@ use Rattle.refusals.specs.Outcomes.{Outcome, accepted, refused, then}
 use Rattle.refusals.proofs.Outcomes.{accepted_refused, refused_number, refused_place}
 use Rattle.fields.specs.Fields.{Bytes, head_size, four_at_value}
 use Rattle.registers.specs.Format.{Register, first_size}
-use Rattle.registers.specs.Reading.{ends, entry_size, entry_stands, number_in, holder_in, record_in, stored_in, entry_of}
+use Rattle.registers.specs.Reading.{ends, entry_size, entry_stands, number_in, holder_in, record_in, stored_in}
+use Rattle.registers.specs.Reading.{entry_of}
 use Rattle.registers.specs.Reading.{read_entry, read_entries, sound, first_stands, read_register}
 use Rattle.registers.proofs.WellFormed.{reads_well_formed}
 use Rattle.claims.specs.Registers.{RegisterRefusal}

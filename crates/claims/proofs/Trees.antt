@@ -100,4 +100,5 @@ length_is_sum t s xs ys hx hy =
   where
     same : (u : Tree) (zs : List Kind) → ((k : ℕ) (x : Kind) → At zs k x ↔ IsKind u k x) → kinds u ≡ zs
     same u zs h =
-        at_same_list (kinds u) zs (λ k x. ((λ a. (h k x).1 ((kind_at u k x).1 a)), λ a. (kind_at u k x).0 ((h k x).0 a)))
+        at_same_list (kinds u) zs
+        (λ k x. ((λ a. (h k x).1 ((kind_at u k x).1 a)), λ a. (kind_at u k x).0 ((h k x).0 a)))

@@ -24,7 +24,8 @@ use Rattle.records.specs.Exchange.{exchanged}
 use Rattle.records.proofs.WordForms.{form_within, word_record}
 use Rattle.records.proofs.Exchanges.{exchanged-encode, exchange_record}
 use Rattle.words.specs.Recording.{judged_with, encode_word, count_record, Left, Recorded}
-use Rattle.comparisons.specs.Comparing.{Decision, same, inverse as inverses, different, refused_word, verdict_by, decided}
+use Rattle.comparisons.specs.Comparing.{Decision, same, inverse as inverses, different, refused_word, verdict_by}
+use Rattle.comparisons.specs.Comparing.{decided}
 use Rattle.comparisons.specs.Comparing.{decision_of, ComparedBy, Compared}
 use Rattle.comparisons.specs.declared.Comparison.{Comparison}
 use Rattle.claims.specs.Refusals.{WordRefusal}

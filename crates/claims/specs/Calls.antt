@@ -2,14 +2,14 @@
 -- memory held. `contract` is the call's own contract, which its function is proved to meet (crate `calls`).
 --     WordCall w          word_to_record on the bytes of the word w
 --     TextCall ps         text_to_record on the text of the powers ps
---     CallOn w            one of both, on the word w                         record_by c    the record that it wrote
---     SpellingCall s      record_to_word on the record s                     spelled_by c   the letters that it wrote
---     PhraseCall s        record_to_text on the record s                     phrased_by c   the text that it wrote
+--     CallOn w            one of both, on the word w                         record_by c   the record that it wrote
+--     SpellingCall s      record_to_word on the record s                     spelled_by c  the letters that it wrote
+--     PhraseCall s        record_to_text on the record s                     phrased_by c  the text that it wrote
 --     PairCall s          record_to_tree_pair on the record s
 --     LengthCall s        record_to_length on the record s
 --     LabelLengthCall s   record_to_label_length on the record s
 --     TwoWordCall u v     same_element on the bytes u and v, which answered
---     ExportedCall w      thompson_word_to_record, thompson_text_to_record   exported_record c   the record it wrote
+--     ExportedCall w      thompson_word_to_record, thompson_text_to_record   exported_record c  the record it wrote
 -- Assumes nothing.
 use Rattle.std.specs.Prelude.{◌≡◌, List, ℕ, take}
 use Rattle.group.specs.Letters.{Word}

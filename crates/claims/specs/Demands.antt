@@ -14,30 +14,32 @@
 -- Contracts, and the crate and file that define each:
 --     Recorded u m m' r           word_to_record                                                  words, Recording
 --     Checked s r                 check_record                                                    records, Checking
---     Paired s p q p' q' r        record_to_tree_pair                                             pairs, Contracts
---     Measured form_length s r     record_to_length                                                pairs, Contracts
---     Measured label_sum s r       record_to_label_length                                          pairs, Contracts
---     Spelled s t t' r            record_to_word                                                  spelling, Contracts
+--     Paired s p q p' q' r        record_to_tree_pair                                             pairs, Promises
+--     Measured form_length s r    record_to_length                                                pairs, Promises
+--     Measured label_sum s r      record_to_label_length                                          pairs, Promises
+--     Spelled s t t' r            record_to_word                                                  spelling, Promises
 --     Compared u m m' v k k' r    same_element                                              comparisons, Comparing
---     TextRecorded t m m' r       text_to_record                                                  notation, Contracts
---     TextWritten s t t' r        record_to_text                                                  notation, Contracts
+--     TextRecorded t m m' r       text_to_record                                                  notation, Promises
+--     TextWritten s t t' r        record_to_text                                                  notation, Promises
 --     RegisterChecked s r         check_register                                                  registers, Answers
 --     EnteredWord u m m' h s s' r enter_word, holder h                                            updates, Entering
 --     Listed list m m' r          list_to_records, lent `list` with a word a line                 wordlists, Listing
---     Repacked o xs ys xs' ys' r  pack_shape, o packing s xs ys; grow_caret, o growing xs ys k    packed, Contracts
+--     Repacked o xs ys xs' ys' r  pack_shape, o packing s xs ys; grow_caret, o growing xs ys k    packed, Promises
 --     Placed o s s' r             unpack_shape, o unpacking xs ys s                               refusals, Placing
---     packing, unpacking, growing the shape that such a call packs or writes, or its refusal      packed, Contracts
---     AnswersNode f xs ys k o     carets_before, f carets_before_value; subtree_end, f subtree_end_value        packed, Contracts
---     carets_before_value, subtree_end_value    the carets before a node; where its subtree ends     packed, Packing; trees, Shapes
+--     packing, unpacking, growing the shape that such a call packs or writes, or its refusal      packed, Promises
+--     AnswersNode f xs ys k o     carets_before, f carets_before_value; subtree_end,
+--                                 f subtree_end_value                                             packed, Promises
+--     carets_before_value         the carets before a node                                        packed, Packing
+--     subtree_end_value           where its subtree ends                                          trees, Shapes
 -- Calls and answers:
 --     WordCall w, TextCall ps     an accepted call on the bytes of w, on the text of powers ps    claims, Calls
---     CallOn w, record_by f        one of both, on the word w; the record that it wrote            claims, Calls
+--     CallOn w, record_by f       one of both, on the word w; the record that it wrote            claims, Calls
 --     SpellingCall, PhraseCall, PairCall, LengthCall, LabelLengthCall s, of a record              claims, Calls
 --     TwoWordCall u v, ExportedCall w    of two words; of an export                               claims, Calls
---     Reply, Verdict              answer types; reply_of, verdict_of: their outcomes                refusals, Outcomes
---     Comparison, decision_of      the answer on two words; its verdict, or a refused word       comparisons, Comparing
---     Entered, number_of_entered    the answer on a filing; its outcome, with the entry's number    updates, Entering
---     NodeEnd, node_end_of          the answer that is a node; its outcome                          packed, Answers
+--     Reply, Verdict              answer types; reply_of, verdict_of: their outcomes              refusals, Outcomes
+--     Comparison, decision_of     the answer on two words; its verdict, or a refused word       comparisons, Comparing
+--     Entered, number_of_entered  the answer on a filing; its outcome, with the entry's number    updates, Entering
+--     NodeEnd, node_end_of        the answer that is a node; its outcome                          packed, Answers
 -- On the right sides:
 --     Refuses o R                 each refusal is the outcome o just when R holds of it           claims, Answers
 --     RefusesWords d R S          the same of two words                                           claims, Answers
@@ -54,9 +56,9 @@
 --     RecordOfWord, PairOfRecord, LengthOfRecord, WordOfRecord    what a call gives               claims, Given
 --     RecordOfText, TextOfRecord  the same of the calls on texts                                  claims, Given
 --     Decides d w x               the verdict d on two words: same, inverse or different, by chains   claims, Given
---     text_of ps, AllInRange ps    the text of powers; indices and exponents are allowed           tokens, Texts, Tokens
+--     text_of ps, AllInRange ps   the text of powers; indices and exponents are allowed           tokens, Texts, Tokens
 --     IsRecord s f                s is the record of the form f                                   records, Format
---     Word, bytes_of w             a string of letters; its bytes, one a letter                    group, Letters, Bytes
+--     Word, bytes_of w            a string of letters; its bytes, one a letter                    group, Letters, Bytes
 --     Joined w x                  a chain of steps, each with one of eight strings, joins w to x  group, Chains
 --     A ↔ B, A × B                just when, and; (x : A) × B: there is an x; A → ⊥: not A        mathlib, Core/Logic
 -- Assumes nothing.
@@ -115,8 +117,10 @@ pub record Demand1 : Type 0 where
   pub record_to_tree_pair_lem : (s p q p' q' : List ℕ) (r : Reply) → Paired s p q p' q' r
       → Refuses (reply_of r) (PairRefusal s (length p) (length q))
       × (IsRefused (reply_of r) → (p' ≡ p) × (q' ≡ q))
-  pub record_to_length_lem : (s : List ℕ) (r : Reply) → Measured form_length s r → Refuses (reply_of r) (RecordRefusal s)
-  pub record_to_label_length_lem : (s : List ℕ) (r : Reply) → Measured label_sum s r → Refuses (reply_of r) (RecordRefusal s)
+  pub record_to_length_lem : (s : List ℕ) (r : Reply) → Measured form_length s r
+      → Refuses (reply_of r) (RecordRefusal s)
+  pub record_to_label_length_lem : (s : List ℕ) (r : Reply) → Measured label_sum s r
+      → Refuses (reply_of r) (RecordRefusal s)
   pub record_to_word_lem : (s t t' : List ℕ) (r : Reply) → Spelled s t t' r
       → Refuses (reply_of r) (SpellingRefusal s (length t)) × (IsRefused (reply_of r) → t' ≡ t)
   pub same_element_lem : (u v : List ℕ) (m m' k k' : Memory) (r : Comparison) → Compared u m m' v k k' r
@@ -141,9 +145,11 @@ pub record Demand1 : Type 0 where
       × (IsRefused (reply_of r) → (xs' ≡ xs) × (ys' ≡ ys))
   pub unpack_shape_lem : (xs ys s s' : List ℕ) (r : Reply) → Placed (unpacking xs ys s) s s' r
       → Refuses (reply_of r) (UnpackRefusal xs ys (length s)) × (IsRefused (reply_of r) → s' ≡ s)
-  pub carets_before_lem : (xs ys : List ℕ) (k : ℕ) (r : Reply) → AnswersNode (λ s. carets_before_value s k) xs ys k (reply_of r)
+  pub carets_before_lem : (xs ys : List ℕ) (k : ℕ) (r : Reply)
+      → AnswersNode (λ s. carets_before_value s k) xs ys k (reply_of r)
       → Refuses (reply_of r) (NodeRefusal xs ys k)
-  pub subtree_end_lem : (xs ys : List ℕ) (k : ℕ) (r : NodeEnd) → AnswersNode (λ s. subtree_end_value s k) xs ys k (node_end_of r)
+  pub subtree_end_lem : (xs ys : List ℕ) (k : ℕ) (r : NodeEnd)
+      → AnswersNode (λ s. subtree_end_value s k) xs ys k (node_end_of r)
       → Refuses (node_end_of r) (NodeRefusal xs ys k)
   pub grow_caret_lem : (xs ys xs' ys' : List ℕ) (k : ℕ) (r : Reply) → Repacked (growing xs ys k) xs ys xs' ys' r
       → Refuses (reply_of r) (GrowRefusal xs ys k) × (IsRefused (reply_of r) → (xs' ≡ xs) × (ys' ≡ ys))

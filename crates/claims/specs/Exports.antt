@@ -2,10 +2,10 @@
 -- that meets the call's contract says, so that the demands on the calls hold of the exports. proofs/Exports.antt has
 -- the proof. What the claim speaks of, and where it is defined:
 --     Passed code contract r   the contract of each export                                            thompson, Codes
---     outcome_of, decision_in    what a caller reads in the numbers: 0 and a value, or number and place thompson, Codes
---     reply_in, live_of          the same in the four numbers of a filing; the live count of an account thompson, Codes
---     code_of_decision, code_of_reply   the numbers of a decision, of a filing's reply                   thompson, Codes
---     the contracts, and reply_of, verdict_of, decision_of, node_end_of            the glossary of Demands.antt
+--     outcome_of, decision_in  what a caller reads in the numbers: 0 and a value, or number and place thompson, Codes
+--     reply_in, live_of        the same in the four numbers of a filing; the live count of an account thompson, Codes
+--     code_of_decision, code_of_reply  the numbers of a decision, of a filing's reply                thompson, Codes
+--     the contracts, and reply_of, verdict_of, decision_of, node_end_of       the glossary of Demands.antt
 -- Assumes nothing.
 use Rattle.std.specs.Prelude.{◌≡◌, List, ℕ}
 use Rattle.refusals.specs.Outcomes.{verdict_of, reply_of}
@@ -53,7 +53,8 @@ pub record ExportsAnswerAsCalls : Type 0 where
       → (r : Reply) × Paired s p q p' q' r × (outcome_of a ≡ reply_of r)
   pub record_to_length_lem : (s : List ℕ) (a : Answer) → Passed (λ r. code_of (reply_of r)) (Measured form_length s) a
       → (r : Reply) × Measured form_length s r × (outcome_of a ≡ reply_of r)
-  pub record_to_label_length_lem : (s : List ℕ) (a : Answer) → Passed (λ r. code_of (reply_of r)) (Measured label_sum s) a
+  pub record_to_label_length_lem : (s : List ℕ) (a : Answer)
+      → Passed (λ r. code_of (reply_of r)) (Measured label_sum s) a
       → (r : Reply) × Measured label_sum s r × (outcome_of a ≡ reply_of r)
   pub record_to_word_lem : (s t t' : List ℕ) (a : Answer) → Passed (λ r. code_of (reply_of r)) (Spelled s t t') a
       → (r : Reply) × Spelled s t t' r × (outcome_of a ≡ reply_of r)
@@ -84,7 +85,8 @@ pub record ExportsAnswerAsCalls : Type 0 where
       → (r : Reply) × AnswersNode (λ s. carets_before_value s k) xs ys k (reply_of r) × (outcome_of a ≡ reply_of r)
   pub subtree_end_lem : (xs ys : List ℕ) (k : ℕ) (a : Answer)
       → Passed (λ r. code_of (node_end_of r)) (λ r. AnswersNode (λ s. subtree_end_value s k) xs ys k (node_end_of r)) a
-      → (r : NodeEnd) × AnswersNode (λ s. subtree_end_value s k) xs ys k (node_end_of r) × (outcome_of a ≡ node_end_of r)
+      → (r : NodeEnd) × AnswersNode (λ s. subtree_end_value s k) xs ys k (node_end_of r)
+      × (outcome_of a ≡ node_end_of r)
   pub grow_caret_lem : (xs ys xs' ys' : List ℕ) (k : ℕ) (a : Answer)
       → Passed (λ r. code_of (reply_of r)) (Repacked (growing xs ys k) xs ys xs' ys') a
       → (r : Reply) × Repacked (growing xs ys k) xs ys xs' ys' r × (outcome_of a ≡ reply_of r)

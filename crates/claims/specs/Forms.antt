@@ -1,16 +1,16 @@
 -- What the demands come to for words and their forms. Each claim is a type; proofs/Forms.antt has its proof, under
--- the same name in small letters with hyphens. What the claims speak of, with the file of group/specs that defines it:
+-- the same name in snake case. What the claims speak of, with the file of group/specs that defines it:
 --     Word              a string of the letters a, A, b, B, of any length                         Letters
 --     Joined u v        a chain of steps, each with one of eight strings, leads from u to v       Chains
 --     SameMap u v       u and v move every dyadic point from 0 to 1 alike, rightmost letter first Maps
 --     Form              x0^b0 … xn^bn xn^−an … x0^−a0, by its levels (b_i, a_i)                   Forms
---     exponent s f i    b_i (the Side s is b_side) or a_i (s is a_side)                             Forms
+--     exponent s f i    b_i (the Side s is b_side) or a_i (s is a_side)                           Forms
 --     SameExponents f g the same b_i and a_i at every i                                           Forms
---     exponent_sum f     the number of letters x_k and x_k⁻¹ of f                                  Forms
+--     exponent_sum f    the number of letters x_k and x_k⁻¹ of f                                  Forms
 --     letters f         f written out: each power of an x_k, in order, by the letters of x_k      Forms
 --     Trimmed f         the last level is not (0, 0), so that equal exponents are equal forms     Forms
 --     Reduced f         where a_i and b_i are above 0, so is a_(i+1) or b_(i+1)                   Reducing
---     form_of w          the form worked out for the word w, letter by letter                      Products
+--     form_of w         the form worked out for the word w, letter by letter                      Products
 -- The demands on the calls are in Demands.antt. Assumes nothing.
 use Rattle.std.specs.Prelude.{◌≡◌, ◌↔◌, ℕ, ◌<◌, ◌≤◌, length}
 use Rattle.group.specs.Letters.{Word}

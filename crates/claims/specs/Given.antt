@@ -12,7 +12,7 @@
 --     Joined w x                    a chain joins w to x                                        group, Chains
 --     SameMap u v                   u and v move every dyadic point from 0 to 1 alike           group, Maps
 --     letters f                     f written out in letters                                    group, Forms
---     exponent s f i                b_i (the Side s is b_side) or a_i (s is a_side)               group, Forms
+--     exponent s f i                b_i (the Side s is b_side) or a_i (s is a_side)             group, Forms
 --     SmallestPair f t u            t and u have f's exponents a and b and one, smallest size   trees, Pairs
 --     SendsLeaves f t u             f's map sends leaf k of t to leaf k of u                    trees, Pairs
 --     Redundant t u                 a caret of both trees is redundant                          trees, Pairs
@@ -20,9 +20,9 @@
 --     IsKind t k x                  caret k of t is of kind x                                   lengths, Kinds
 --     weights xs ys                 the sum of the weights of two lists of kinds                lengths, Weights
 --     At xs k x                     entry k of the list xs is x                                 lists, Entries
---     text_of ps                     the tokens of powers, one space apart                       tokens, Texts
---     form_powers f                  the powers of a form in its order                           group, Powers
---     product_letters ps             the letters that powers are read through                    group, Powers
+--     text_of ps                    the tokens of powers, one space apart                       tokens, Texts
+--     form_powers f                 the powers of a form in its order                           group, Powers
+--     product_letters ps            the letters that powers are read through                    group, Powers
 --     Spells f w                    w is each x_k^e of f in order, through its letters, with    spelling, Spelling
 --                                   neighbouring inverse letters deleted until none is left
 -- Assumes nothing.

@@ -1,28 +1,28 @@
 -- Fordham's length is the least number of letters (000, section 3.1, lemma 3.1 and theorem 3.2; 01, 'The tree pair and
 -- the length'), 16 bits hold it (02, [2]), and the sum of Table 1 over five labels is the same number (001, section 2;
--- 02, [5]): a claim each; proofs/Lengths.antt has the proofs, under the same names in small letters with hyphens. What
+-- 02, [5]): a claim each; proofs/Lengths.antt has the proofs, under the same names in snake case. What
 -- the claims speak of, and where it is defined:
 --     LengthCall s       an accepted call of record_to_length on the record s; its answer is `count`   claims, Calls
 --     WordCall w         an accepted call of word_to_record on the bytes of w                          claims, Calls
 --     IsRecord s f       s is the record of the form f                                                records, Format
---     form_of w           the reduced form of a word                                                   group, Products
+--     form_of w          the reduced form of a word                                                   group, Products
 --     letters f          the form f written out in letters                                            group, Forms
 --     Joined, SameMap    a chain joins two words; they move every dyadic point alike                  group
---     pair_length t s     the sum of the weights of a pair of trees                                    lengths, Weights
---     form_length f       the same of the form's smallest pair                                         lengths, Weights
---     carets_of f         N of the form, the carets of each tree                                       trees, Pairs
---     max_carets          2 · limit + 1, the largest N within the limits                               trees, Pairs
+--     pair_length t s    the sum of the weights of a pair of trees                                    lengths, Weights
+--     form_length f      the same of the form's smallest pair                                         lengths, Weights
+--     carets_of f        N of the form, the carets of each tree                                       trees, Pairs
+--     max_carets         2 · limit + 1, the largest N within the limits                               trees, Pairs
 --     classes t          the one reading of a tree, from which kinds and labels are worked out        lengths, Classes
---     exponents_of t      the exponents of the leaves of a tree                                        trees, Readings
---     row_classes, from_one  the classes of carets by two counters, from the exponents alone            geodesics, Rows
+--     exponents_of t     the exponents of the leaves of a tree                                        trees, Readings
+--     row_classes, from_one  the classes of carets by two counters, from the exponents alone          geodesics, Rows
 --     IsLabel t k x      caret k has the label x, by the request's sentences                          lengths, Labels
 --     labels t           the labels of the carets 1, 2, … as they are worked out                      lengths, Labels
 --     At xs k x          entry k of the list xs is x                                                  lists, Entries
 --     table1 x y         001, Table 1: the weight of the label x over y                               geodesics, Table1
---     table_sum xs ys     its sum over columns, the trailing columns R over R dropped                  geodesics, Table1
---     label_length        the same over the labels of a pair of trees                                  geodesics, Table1
---     label_entry i j     the constant of the code, its rows and columns numbered by number_of          scans, Table
---     label_sum f         the same of the form's smallest pair                                         pairs, Contracts
+--     table_sum xs ys    its sum over columns, the trailing columns R over R dropped                  geodesics, Table1
+--     label_length       the same over the labels of a pair of trees                                  geodesics, Table1
+--     label_entry i j    the constant of the code, its rows and columns numbered by number_of         scans, Table
+--     label_sum f        the same of the form's smallest pair                                         pairs, Promises
 --     decode s           the form of the record s, or its refusal                                     records, Reading
 --     valued count o     what is counted of a form, or the refusal as it is                        refusals, Outcomes
 -- Assumes nothing.

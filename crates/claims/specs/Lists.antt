@@ -1,5 +1,5 @@
 -- Many words in one call (02, [4]), over the contracts of `list_to_records` and `word_to_record`. Read `ListIsCalls`
--- first; proofs/Lists.antt has the proofs, under the same names in small letters with hyphens.
+-- first; proofs/Lists.antt has the proofs, under the same names in snake case.
 --     ListRefusal          the conditions of 6 and 7, in their order
 --     ListIsCalls          the list call answers and leaves what one call a word does, one after another
 --     SomeCalls            such calls can always be made
@@ -10,19 +10,19 @@
 -- Names used, and where each is defined:
 --     Listed list m m' r      the contract of `list_to_records`                           wordlists, Listing
 --     Recorded u m m' r       the contract of `word_to_record`                            words, Recording
---     reply_of r               an answer as accepted, or as refused with number and place  refusals, Outcomes
---     lines_of list            the lines; line_bytes ls: their bytes, ends of line left out  lines, Lines
---     line_read l              the word that a line is, or refusal 1 or 2 of it            letters, Judging
+--     reply_of r              an answer as accepted, or as refused with number and place  refusals, Outcomes
+--     lines_of list           the lines; line_bytes ls: their bytes, ends of line left out  lines, Lines
+--     line_read l             the word that a line is, or refusal 1 or 2 of it            letters, Judging
 --     item o, items ls        the bytes for what a line is read as; for all lines         wordlists, Items
---     refused_tag              0F hex, the tag of a refused word                           wordlists, Items
---     field t s, two_bytes p   tag, length and the bytes s; a number in two bytes          fields, Fields
---     base_size, buffer_size n  6; the bytes that word to record needs for n letters        records, Format
+--     refused_tag             0F hex, the tag of a refused word                           wordlists, Items
+--     field t s, two_bytes p  tag, length and the bytes s; a number in two bytes          fields, Fields
+--     base_size, buffer_size n  6; the bytes that word to record needs for n letters      records, Format
 --     ShortTables m           a table with fewer entries than the limit and one           claims, Refusals
 --     MemoryCall R            an accepted call, by its contract R                         claims, Calls
 --     At cs i c               entry i of cs, counted from 0, is c                         lists, Entries
 --     exponent s f i          the exponent of x_i on a side of the form f                 group, Forms
---     form_of w                the reduced form of a word                                  group, Products
---     bytes_of w, Joined w x   the bytes of a word; a chain joins two words                group, Bytes, Chains
+--     form_of w               the reduced form of a word                                  group, Products
+--     bytes_of w, Joined w x  the bytes of a word; a chain joins two words                group, Bytes, Chains
 -- Assumes nothing.
 use Rattle.std.specs.Prelude.{◌≡◌, List, [], ◌∷◌, ◌++◌, ◌⊎◌, ◌↔◌, ℕ, ◌+◌, ◌*◌, ◌<◌, ◌≤◌, length, take, drop, get_or}
 use Rattle.lists.specs.Entries.{At}

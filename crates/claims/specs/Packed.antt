@@ -1,6 +1,6 @@
 -- Packed shapes (02, [6]), over the contracts of `pack_shape`, `unpack_shape`, `carets_before`, `subtree_end` and
 -- `grow_caret`. Read `PackUnpack` first; proofs/Packed.antt has the proofs, and proofs/PackedGiven.antt that of
--- `ShapesGiven`, under the same names in small letters with hyphens.
+-- `ShapesGiven`, under the same names in snake case.
 --     PackRefusal, UnpackRefusal, NodeRefusal, GrowRefusal   the conditions of 15 and 7, 15 before 7
 --     ShapesGiven      what each call gives where it is not refused: PackGiven, UnpackGiven, CaretsGiven, EndGiven,
 --                      GrowGiven
@@ -11,21 +11,21 @@
 -- Letters: s bytes lent as a shape; xs, ys numbers and summary lent; zs, ws others; out a buffer for bytes; t a tree, u
 -- another or an address; k a node or a leaf; n, m what is answered; r, q answers; a ' marks the same memory at exit.
 -- Names used, and where each is defined:
---     Repacked o xs ys xs' ys' r   the contract of `pack_shape` and `grow_caret`      packed, Contracts
---     packing, growing        the shape that each of them packs, or its refusal       packed, Contracts
+--     Repacked o xs ys xs' ys' r   the contract of `pack_shape` and `grow_caret`      packed, Promises
+--     packing, growing        the shape that each of them packs, or its refusal       packed, Promises
 --     Placed o out out' r     the contract of `unpack_shape`                          refusals, Placing
---     unpacking               the bytes that it writes, or its refusal                packed, Contracts
---     AnswersNode f xs ys k o the contract of `carets_before` and `subtree_end`       packed, Contracts
---     reply_of r               an answer's outcome, accepted or refused                refusals, Outcomes
---     node_end_of r             the same of an answer that is a node                    packed, Answers
+--     unpacking               the bytes that it writes, or its refusal                packed, Promises
+--     AnswersNode f xs ys k o the contract of `carets_before` and `subtree_end`       packed, Promises
+--     reply_of r              an answer's outcome, accepted or refused                refusals, Outcomes
+--     node_end_of r           the same of an answer that is a node                    packed, Answers
 --     Packs s xs ys           xs and ys begin with the numbers and the summary of s   packed, Packing
---     packed_shape xs ys       the byte shape of a packed one, or 15                   packed, Packing
---     carets_before_value s k        the carets among the nodes before node k                packed, Packing
---     grown t u, grow_at s k   a caret in place of a leaf, in a tree and in a shape    packed, Growing
---     numbers_of_value n             how many numbers n nodes take: one for each 64 begun    bitrows, Numbers
+--     packed_shape xs ys      the byte shape of a packed one, or 15                   packed, Packing
+--     carets_before_value s k  the carets among the nodes before node k               packed, Packing
+--     grown t u, grow_at s k  a caret in place of a leaf, in a tree and in a shape    packed, Growing
+--     numbers_of_value n      how many numbers n nodes take: one for each 64 begun    bitrows, Numbers
 --     Tree, carets t, Address, IsLeaf t k u, Subtree t u x   trees, leaves, subtrees  trees, Trees
---     shape t, Node t k u, subtree_end_value s k   bytes, nodes, where a subtree ends        trees, Shapes
---     max_carets               8,193, the bound                                        trees, Pairs
+--     shape t, Node t k u, subtree_end_value s k  bytes, nodes, where a subtree ends  trees, Shapes
+--     max_carets              8,193, the bound                                        trees, Pairs
 --     total s                 the sum of a list, of a shape its carets                lists, Entries
 -- Assumes nothing.
 use Rattle.std.specs.Prelude.{◌≡◌, List, ◌++◌, ◌⊎◌, ◌↔◌, ℕ, suc, ◌+◌, ◌*◌, ◌<◌, ◌≤◌, length, take, drop}
@@ -136,9 +136,11 @@ pub record ShapesGiven : Type 0 where
   pub unpack_shape_lem : (xs ys out out' : List ℕ) (r : Reply) (n : ℕ) → Placed (unpacking xs ys out) out out' r
       → reply_of r ≡ accepted n → UnpackGiven xs ys out out' n
   pub carets_before_lem : (xs ys : List ℕ) (k : ℕ) (r : Reply) (n : ℕ)
-      → AnswersNode (λ s. carets_before_value s k) xs ys k (reply_of r) → reply_of r ≡ accepted n → CaretsGiven xs ys k n
+      → AnswersNode (λ s. carets_before_value s k) xs ys k (reply_of r) → reply_of r ≡ accepted n
+      → CaretsGiven xs ys k n
   pub subtree_end_lem : (xs ys : List ℕ) (k : ℕ) (r : NodeEnd) (n : ℕ)
-      → AnswersNode (λ s. subtree_end_value s k) xs ys k (node_end_of r) → node_end_of r ≡ accepted n → EndGiven xs ys k n
+      → AnswersNode (λ s. subtree_end_value s k) xs ys k (node_end_of r) → node_end_of r ≡ accepted n
+      → EndGiven xs ys k n
   pub grow_caret_lem : (xs ys xs' ys' : List ℕ) (k : ℕ) (r : Reply) (n : ℕ)
       → Repacked (growing xs ys k) xs ys xs' ys' r → reply_of r ≡ accepted n → GrowGiven xs ys xs' ys' k n
 

@@ -1,11 +1,11 @@
 -- The receipt program (01, 'The receipt program'), over the contracts of its calls; proofs/Receipts.antt has the
--- proofs, under the same names in small letters with hyphens. What the claims speak of, and where it is defined:
---     lines_of s            the lines of the bytes s; join_lines, line_feed, cut_to, whole_of        lines, Lines
---     meet_lines, met_in     the lines that are met in a part, in the parts of an input           lines, Feeding
---     receipt_of k line     the receipt of line k; receipts_from, header, output_of                receipts, Receipts
+-- proofs, under the same names in snake case. What the claims speak of, and where it is defined:
+--     lines_of s           the lines of the bytes s; join_lines, line_feed, cut_to, whole_of    lines, Lines
+--     meet_lines, met_in   the lines that are met in a part, in the parts of an input           lines, Feeding
+--     receipt_of k line    the receipt of line k; receipts_from, header, output_of              receipts, Receipts
 --     served s k line held what becomes of a part: its receipts, and what is kept               receipts, Serving
---     Begun, ServedPart, Finished   the contracts of begin, serve and finish                    receipts, Contracts
---     serving_of, reply_of the answers as accepted or refused              receipts, Contracts; refusals, Outcomes
+--     Begun, ServedPart, Finished   the contracts of begin, serve and finish                    receipts, Promises
+--     serving_of, reply_of the answers as accepted or refused            receipts, Promises; refusals, Outcomes
 -- Assumes nothing.
 use Rattle.std.specs.Prelude.{◌≡◌, List, [], ◌∷◌, ◌++◌, ◌⊎◌, ℕ, ◌+◌, ◌<◌, ◌≤◌, ◌^◌, length, take}
 use Rattle.lists.specs.Entries.{At}

@@ -1,5 +1,5 @@
--- What a record is (01, 'The record'), a claim each; proofs/Records.antt has the proofs, under the same names in small
--- letters with hyphens. What the claims speak of, and where it is defined:
+-- What a record is (01, 'The record'), a claim each; proofs/Records.antt has the proofs, under the same names in snake
+-- case. What the claims speak of, and where it is defined:
 --     IsRecord s f        s is the two fields of f's entries, f reduced and within the limits         records, Format
 --     decode s            the form that the calls read in s, or what they refuse                      records, Reading
 --     Bytes s             every element of s is a byte; what is lent to a call always is              records, Faults

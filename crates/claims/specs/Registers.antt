@@ -13,16 +13,16 @@
 --     RegisterChecked s v     the contract of `check_register`                      registers, Answers
 --     EnteredWord u m m' h s s' r   the contract of `enter_word`                    updates, Entering
 --     WellFormed s q          the bytes s are the register q, by 02's sentence      registers, WellFormed
---     read_register s          the register that is read in s, or 12                 registers, Reading
---     number_for f es          the number of the entry with a form, if there is one  registers, Reading
+--     read_register s         the register that is read in s, or 12                 registers, Reading
+--     number_for f es         the number of the entry with a form, if there is one  registers, Reading
 --     found s b               the number of the first entry with the record b       registers, Finding
 --     live h es               how many of the entries es are the holder's           registers, Reading
---     register_bytes q, entry_field n h b   the bytes of a register; of an entry      registers, Format
---     entered_of r             an answer as accepted, or as refused with number and place   updates, Entering
---     new_entry k, present k   what is accepted: a new entry, the entry that holds the element   updates, Entering
---     stored_form w            the form under which a word's element is kept         updates, Entering
---     with_entry q h f         q with one more entry, numbered one above the last    updates, Entering
---     account_in h q, raised a n   a holder's account; charged by n                  updates, Accounts
+--     register_bytes q, entry_field n h b  the bytes of a register; of an entry     registers, Format
+--     entered_of r            an answer as accepted, or as refused with number and place   updates, Entering
+--     new_entry k, present k  what is accepted: a new entry, the entry that holds the element   updates, Entering
+--     stored_form w           the form under which a word's element is kept         updates, Entering
+--     with_entry q h f        q with one more entry, numbered one above the last    updates, Entering
+--     account_in h q, raised a n  a holder's account; charged by n                  updates, Accounts
 --     is_above b, exchanged b  the record b is above, in byte order, the record with its sides exchanged; that one
 --                                                                                   records, Exchange
 --     IsRecord b f            b is the record of the form f                         records, Format

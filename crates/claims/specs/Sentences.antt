@@ -1,16 +1,16 @@
 -- What the papers say of letters, maps, generators and reducing beside the demands, and what later calls use of forms,
--- a claim each; proofs/Sentences.antt has the proofs, under the same names in small letters with hyphens. Names beside
+-- a claim each; proofs/Sentences.antt has the proofs, under the same names in snake case. Names beside
 -- those that Forms.antt explains, with the file of group/specs that defines them:
---     inverse_letter, inverse     the inverse of a letter, of a word                               Letters
+--     inverse_letter, inverse    the inverse of a letter, of a word                               Letters
 --     JoinedBy S u v             a chain whose steps use the strings of S joins u to v            Chains
 --     below1 p, end1             the point below 1 with the digits p; the end 1                   Points
---     SamePoint, map_of w         one point, by its digits; the map of a word                      Points, Maps
+--     SamePoint, map_of w        one point, by its digits; the map of a word                      Points, Maps
 --     generator k                x_k by letters                                                   Forms
 --     Infinite                   the relators of the infinite presentation                        Presentations
 --     Applies i f                a reducing step applies at i                                     Reducing
 --     ReducingStep i f g         the step at i leads from f to g                                  Reducing
 --     Steps n f g                n steps, in any order, lead from f to g                          Reducing
---     times_letter, behind_letter  a letter put in front of a form, behind it                       Products
+--     times_letter, behind_letter  a letter put in front of a form, behind it                     Products
 --     exchange f                 f with its sides exchanged                                       Products
 -- Assumes nothing.
 use Rattle.std.specs.Prelude.{◌≡◌, [], ◌∷◌, ◌++◌, ◌↔◌, ℕ, suc, ◌+◌, ◌<◌, ◌≤◌}

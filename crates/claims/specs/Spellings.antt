@@ -1,10 +1,10 @@
 -- The sentences of 01, 'What the desk can be asked', on record to word, beside the demands: a claim each;
--- proofs/Spellings.antt has the proofs, under the same names in small letters with hyphens. Names beside those that
+-- proofs/Spellings.antt has the proofs, under the same names in snake case. Names beside those that
 -- Forms.antt and Given.antt explain:
 --     Deletion u v       two neighbouring inverse letters of u are deleted, which leaves v
 --     Deletions u w      such deletions, in any order, lead from u to w
 --     FreelyReduced w    none is left to delete                                       all three: group, FreeReduction
---     spelling_length f   the sum in closed form                                                  spelling, Spelling
+--     spelling_length f  the sum in closed form                                                  spelling, Spelling
 -- Assumes nothing.
 use Rattle.std.specs.Prelude.{◌≡◌, ◌+◌, length}
 use Rattle.group.specs.Letters.{Word}

@@ -1,11 +1,11 @@
 -- The sentences of 02, [1], on subscript notation, beside the demands: a claim each; proofs/Texts.antt has the proofs,
--- under the same names in small letters with hyphens. What the claims speak of, and where it is defined:
---     token_text p, text_of ps       the token of a power; the tokens of powers, one space apart    tokens, Tokens, Texts
---     pieces_of t, AllWellSpelled   what the spaces of a text part; each of them is a token        tokens, Texts
+-- under the same names in snake case. What the claims speak of, and where it is defined:
+--     token_text p, text_of ps     the token of a power; the tokens of powers, one space apart    tokens, Tokens, Texts
+--     pieces_of t, AllWellSpelled  what the spaces of a text part; each of them is a token        tokens, Texts
 --     AllInRange ps                indices and exponents are allowed                              tokens, Tokens
---     product_letters ps            the letters that powers are read through                       group, Powers
---     form_powers f                 the powers of a form in its order                              group, Powers
---     letters f, exponent_sum f     the form in letters; the sum of its exponents                  group, Forms
+--     product_letters ps           the letters that powers are read through                       group, Powers
+--     form_powers f                the powers of a form in its order                              group, Powers
+--     letters f, exponent_sum f    the form in letters; the sum of its exponents                  group, Forms
 -- Assumes nothing.
 use Rattle.std.specs.Prelude.{◌≡◌, List, [], ◌++◌, ◌↔◌, ℕ}
 use Rattle.group.specs.Forms.{Form, letters, exponent_sum}

@@ -1,14 +1,14 @@
 -- The sentences of 01, 'The tree pair and the length', beside the definitions: a claim each; proofs/Trees.antt has the
--- proofs, under the same names in small letters with hyphens. What the claims speak of, and where it is defined:
+-- proofs, under the same names in snake case. What the claims speak of, and where it is defined:
 --     Tree, carets t, Address          trees; N; the way down from the root, by edges              trees, Trees
 --     IsLeaf t k u, IsCaret t k v      leaf k and caret k by their addresses                       trees, Trees
 --     LeafExponent, HasExponents       the exponents of leaves, by 000, definition 2.7             trees, Exponents
 --     Pair, SmallestPair               trees of one size with the exponents a and b; the smallest  trees, Pairs
---     minus_tree f, plus_tree f          T− and T+, with carets_of f carets, at most max_carets        trees, Pairs
+--     minus_tree f, plus_tree f        T− and T+, with carets_of f carets, at most max_carets      trees, Pairs
 --     Redundant, SendsLeaves, InLeaf   000, definition 2.4; the map of a pair                      trees, Pairs
---     shape t, Node t k u, subtree_end_value  bytes, nodes by number, where a subtree ends                trees, Shapes
+--     shape t, Node t k u, subtree_end_value  bytes, nodes by number, where a subtree ends         trees, Shapes
 --     IsKind t k x, Kind               caret k is of kind x, by 01's sentences                     lengths, Kinds
---     weight x y; table_entry i j       Fordham's table; the same as the code has it                 lengths, Weights
+--     weight x y; table_entry i j      Fordham's table; the same as the code has it                 lengths, Weights
 -- Assumes nothing.
 use Rattle.std.specs.Prelude.{◌≡◌, List, ◌∷◌, ◌++◌, ◌↔◌, ℕ, suc, ◌+◌, ◌*◌, ◌<◌, ◌≤◌, length}
 use Rattle.lists.specs.Entries.{At}

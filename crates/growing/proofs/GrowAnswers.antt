@@ -1,5 +1,5 @@
 -- What `grow_caret` answers, case by case.
---     answer_refused       the check refuses                     answer-beyond, answer-full    no leaf k, no caret more
+--     answer_refused       the check refuses                     answer-beyond, answer_full    no leaf k, no caret more
 --     answer_short         no room                               answer-grown                  the caret is grown
 --     answer_none          a leaf that no tree within the bound has
 -- Assumes nothing.
@@ -100,7 +100,8 @@ module _ {numbers summary : List ℕ} {n : ℕ} (c : Checked numbers summary n) 
 
       -- There is no room.
       pub answer_short : (r : Reply)
-          → (length numbers < numbers_of_value (n + 2)) ⊎ (length summary < numbers_of_value (n + 2)) → reply_of r ≡ refused 7 0
+          → (length numbers < numbers_of_value (n + 2)) ⊎ (length summary < numbers_of_value (n + 2))
+          → reply_of r ≡ refused 7 0
           → Repacked (growing numbers summary k) numbers summary numbers summary r
       answer_short r l e =
           let s : List ℕ = grow_at (shape_of numbers n) k in

@@ -1,7 +1,7 @@
 -- A caret grown in packed numbers: in front of node v a caret and a leaf are put, number by number from that of node v.
 --     grow-inserted       what is grown at a leaf is the shape with both put in front of its node
 --     Grows e f n v …     amid this: the numbers and the summary entries below j are those of the grown shape
---     grows_start, grows-more, grows-done   where it begins, one number more, and what it leaves
+--     grows_start, grows_more, grows_done   where it begins, one number more, and what it leaves
 -- Assumes nothing.
 use mathlib.Core.Path.{◌≡◌, refl, sym, ap, ap₂, subst, ◌∙◌}
 use mathlib.Core.Bool.{Bool, true, false, cond}

@@ -1,7 +1,7 @@
 -- Looking for the node of a leaf in a packed shape.
---     held_room, held-few           its summary has an entry for each number, and none counts too much
---     holds_returned, holds-last    the number that holds the leaf: where the search stops
---     leaf_inside, leaf-found       the leaf is one of this number's, and its node is found
+--     held_room, held_few           its summary has an entry for each number, and none counts too much
+--     holds_returned, holds_last    the number that holds the leaf: where the search stops
+--     leaf_inside, leaf_found       the leaf is one of this number's, and its node is found
 -- Assumes nothing.
 use mathlib.Core.Path.{◌≡◌, sym, ap, subst}
 use mathlib.Core.List.{List}

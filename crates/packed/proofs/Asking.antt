@@ -1,5 +1,5 @@
 -- The two questions about a node of a packed shape.
---     answers_refused, answers-none, answers-beyond, answers-value   the answers
+--     answers_refused, answers_none, answers_beyond, answers_value   the answers
 --     carets_counted    the masked count and the summary give the carets before the node
 --     end_reached       the walk from the node ends where its subtree does
 -- Assumes nothing.
@@ -93,7 +93,8 @@ read_room {numbers} {summary} {n} k h l =
 
 -- The count and the summary.
 pub carets_counted : {numbers summary : List ℕ} {n : ℕ} (k : ℕ) → Checked numbers summary n → k < n
-    → get_or summary (k / 64) 0 + ones (get_or numbers (k / 64) 0 % 2 ^ (k % 64)) ≡ carets_before_value (shape_of numbers n) k
+    → get_or summary (k / 64) 0 + ones (get_or numbers (k / 64) 0 % 2 ^ (k % 64))
+    ≡ carets_before_value (shape_of numbers n) k
 carets_counted {numbers} {summary} {n} k h l =
     let s = shape_of numbers n in
     let j = k / 64 in
@@ -132,7 +133,8 @@ end_reached {numbers} {summary} {n} k w h l a = go (node_of tree k (omega (arith
     whole : nodes ≡ shape tree ++ rest
     whole = sym (take-append-drop n nodes) ∙ ap (λ (s : List ℕ). s ++ rest) (sym h.is_shape)
 
-    closed : (u : Address) (x : Tree) → Node tree k u → Subtree tree u x → w.at ≡ subtree_end_value (shape_of numbers n) k
+    closed : (u : Address) (x : Tree) → Node tree k u → Subtree tree u x
+        → w.at ≡ subtree_end_value (shape_of numbers n) k
     closed u x node at =
         let b = node_bytes tree k u x node at in
         let e = subtree_end_lem tree k u x node at in

@@ -1,7 +1,7 @@
 -- What the answer of `check` says: the tree whose numbers and summary these are, or that there is none.
 --     Checked xs ys n      n nodes of the numbers xs are the shape of a tree, packed with the summary ys
 --     checked_is           the check counted n nodes
---     Repacked answers: repacked-refused, repacked-filled
+--     Repacked answers: repacked_refused, repacked_filled
 -- Assumes nothing.
 use mathlib.Core.Path.{◌≡◌, sym, ap, subst, ◌∙◌}
 use mathlib.Core.List.{List}
@@ -82,7 +82,8 @@ module _ {o : Outcome (List ℕ)} {numbers summary : List ℕ} (r : Reply) where
   }
 
   -- A shape whose numbers and summary were put.
-  pub repacked_filled : {s numbers' summary' : List ℕ} → o ≡ accepted s → reply_of r ≡ accepted (numbers_of_value (length s))
+  pub repacked_filled : {s numbers' summary' : List ℕ} → o ≡ accepted s
+      → reply_of r ≡ accepted (numbers_of_value (length s))
       → numbers' ≡ filled (numbers_of_value (length s)) (number_at s) numbers
       → summary' ≡ filled (numbers_of_value (length s)) (summary_at s) summary
       → Repacked o numbers summary numbers' summary' r

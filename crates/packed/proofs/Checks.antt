@@ -124,11 +124,13 @@ pub values_there : (m : ℕ) (f : ℕ → ℕ) (xs : List ℕ) → take m xs ≡
 values_there m f xs e = omega (arith, ap length e, values_length m f, length-take m xs)
 
 -- The tests pass: the nodes are packed.
-pub packs_when : (numbers summary : List ℕ) (n : ℕ) → Within numbers n → Wide numbers → numbers_of_value n ≤ length summary
-    → Clear numbers n → Summed numbers summary (numbers_of_value n) → Packs (shape_of numbers n) numbers summary
+pub packs_when : (numbers summary : List ℕ) (n : ℕ) → Within numbers n → Wide numbers
+    → numbers_of_value n ≤ length summary → Clear numbers n
+    → Summed numbers summary (numbers_of_value n) → Packs (shape_of numbers n) numbers summary
 packs_when numbers summary n w h l c p =
     let s = shape_of numbers n in
-    let e : numbers_of_value (length s) ≡ numbers_of_value n = ap numbers_of_value (shape_of_length numbers n w.there) in
+    let e : numbers_of_value (length s) ≡ numbers_of_value n =
+    ap numbers_of_value (shape_of_length numbers n w.there) in
     record {
       holds_numbers =
           front_values (numbers_of_value (length s)) (number_at s) numbers (omega (arith, e, w.there))
@@ -195,7 +197,8 @@ pub packs_short : (numbers summary : List ℕ) (n : ℕ) → Within numbers n �
 packs_short numbers summary n w l =
     packs_false (λ p. omega (arith, shape_of_length numbers n w.there, held_there p))
   where
-    held_there : Packs (shape_of numbers n) numbers summary → numbers_of_value (length (shape_of numbers n)) ≤ length summary
+    held_there : Packs (shape_of numbers n) numbers summary
+        → numbers_of_value (length (shape_of numbers n)) ≤ length summary
     held_there p = values_there _ (summary_at (shape_of numbers n)) summary p.holds_summary
 
 -- Unused bits that are set.

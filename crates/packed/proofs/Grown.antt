@@ -1,7 +1,7 @@
 -- A caret grown at a leaf (02, [6]): what is grown in the shape is the shape of the tree with a caret at the leaf.
 --     grow-shape      in the bytes as in the tree                        grown-carets    one caret more
 --     leaf_there      the leaves 0 to N of a tree with N carets          grown-shape     the shape where it is accepted
---     grown-beyond, grown-full    where it is refused: no leaf k, or no caret more
+--     grown-beyond, grown_full    where it is refused: no leaf k, or no caret more
 -- Assumes nothing.
 use mathlib.Core.Path.{◌≡◌, refl, sym, ap, ◌∙◌}
 use mathlib.Core.Bool.{Bool, cond}

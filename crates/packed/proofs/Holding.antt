@@ -1,6 +1,6 @@
 -- What is known of a shape that is packed with its summary.
 --     held-length, held-nodes      it has so many nodes
---     held_number, held-summary    its numbers and the entries of its summary, one by one
+--     held_number, held_summary    its numbers and the entries of its summary, one by one
 -- Assumes nothing.
 use mathlib.Core.Path.{◌≡◌, sym, ap, ◌∙◌}
 use mathlib.Core.List.{List}

@@ -1,10 +1,10 @@
 -- The steps of packing: how bytes are judged, how one number is packed, and how the numbers fill what is lent.
 --     Closing s p i         i of the bytes s are read, and p subtrees are to come
---     tree_long, closing-stuck, closing-other, closing-done   what `is_tree` answers
+--     tree_long, closing_stuck, closing_other, closing_done   what `is_tree` answers
 --     PackingPart w s from k x   of the w nodes from a place on, those from the k-th on are packed in x
 --     Filling s xs₀ ys₀ xs ys n j   j numbers of the shape s are put, with n carets in them
---     tree_accepted, tree-few, tree-not   what the answer of `is_tree` says
---     repacked_refused, repacked-filled   how a call comes to meet `Repacked`
+--     tree_accepted, tree_few, tree_not   what the answer of `is_tree` says
+--     repacked_refused, repacked_filled   how a call comes to meet `Repacked`
 -- Assumes nothing.
 use mathlib.Core.Path.{◌≡◌, refl, sym, ap, ap₂, subst, ◌∙◌}
 use mathlib.Core.Bool.{Bool, true, false, cond}

@@ -1,8 +1,8 @@
 -- A packed shape is that of one tree (02, [6]): how it is read, how it is written, and the room that it takes.
---     packed_shape_lem    the packed shape of a tree reads as its shape     packed-tree     what reads is that of a tree
---     packed_one      it is that of no other                            packed-refused  what is refused is of no tree
+--     packed_shape_lem  the packed shape of a tree reads as its shape   packed_tree     what reads is that of a tree
+--     packed_one      it is that of no other                            packed_refused  what is refused is of no tree
 --     filled-packs    filled tables pack a shape
---     room_fits, room-short, room-given   where there is room, and where there is not
+--     room_fits, room_short, room_given   where there is room, and where there is not
 -- Assumes nothing.
 use mathlib.Core.Path.{◌≡◌, refl, sym, ap, ap₂, subst, ◌∙◌, ◌≡⟨◌⟩◌, ◌∎}
 use mathlib.Core.Bool.{Bool, true, false, cond, false≢true}
@@ -45,7 +45,8 @@ true_packs {s} {numbers} {summary} h =
     go (same_bytes (take (numbers_of_value (length s)) numbers) (numbers_for s)) refl h
   where
     go : (p : Bool) → same_bytes (take (numbers_of_value (length s)) numbers) (numbers_for s) ≡ p
-        → cond p (same_bytes (take (numbers_of_value (length s)) summary) (summary_for s)) false ≡ true → Packs s numbers summary
+        → cond p (same_bytes (take (numbers_of_value (length s)) summary) (summary_for s)) false ≡ true
+        → Packs s numbers summary
     go true e k = record { holds_numbers = same_bytes_lem _ _ e; holds_summary = same_bytes_lem _ _ k }
     go false e k = absurd (false≢true k)
 
@@ -144,7 +145,8 @@ packed_refused numbers summary number place e =
 
 -- Tables that were filled with the numbers and the summary of a shape pack it.
 pub filled-packs : (s numbers summary : List ℕ)
-    → Packs s (filled (numbers_of_value (length s)) (number_at s) numbers) (filled (numbers_of_value (length s)) (summary_at s) summary)
+    → Packs s (filled (numbers_of_value (length s)) (number_at s) numbers)
+    (filled (numbers_of_value (length s)) (summary_at s) summary)
 filled-packs s numbers summary =
     let m : ℕ = numbers_of_value (length s) in
     record {

@@ -1,7 +1,7 @@
 -- Which bytes are the shape of a tree within the bound (02, [6]).
 --     IsTree s        the bytes s are the shape of a tree with at most max_carets carets
---     tree_shape_lem      such bytes are accepted as they are            tree-large      a larger tree is refused with 15
---     shape_tree      what is accepted is the shape of such a tree   tree-refused    what is refused is of no such tree
+--     tree_shape_lem  such bytes are accepted as they are            tree_large      a larger tree is refused with 15
+--     shape_tree      what is accepted is the shape of such a tree   tree_refused    what is refused is of no such tree
 -- Assumes nothing.
 use mathlib.Core.Path.{◌≡◌, refl, sym, ap, ◌∙◌}
 use mathlib.Core.Bool.{Bool, true, false, cond, false≢true}
@@ -67,7 +67,8 @@ abbrev judged : List ℕ → Bool → Bool → Outcome (List ℕ)
 judged s whole large = cond whole (cond large (refused 15 0) (accepted s)) (refused 15 0)
 
 -- The shape of a tree, judged by its length.
-closed_shape : (t : Tree) → tree_shape (shape t) ≡ judged (shape t) true (ltb (shape_size max_carets) (length (shape t)))
+closed_shape : (t : Tree)
+    → tree_shape (shape t) ≡ judged (shape t) true (ltb (shape_size max_carets) (length (shape t)))
 closed_shape t =
     ap (λ (whole : Bool). judged (shape t) whole (ltb (shape_size max_carets) (length (shape t))))
     (closes_exact (shape t) 1 (shape_exact t))

@@ -2,7 +2,7 @@
 --     nodes_at               a node of the numbers, by its number and its place there
 --     Unpacking xs l₀ l i    i nodes of the numbers xs are written
 --     Unpacked xs ys n       n nodes of the numbers xs are read
---     check-accepted, check-refused   what the answer of `check` says
+--     check-accepted, check_refused   what the answer of `check` says
 -- Assumes nothing.
 use mathlib.Core.Path.{◌≡◌, refl, sym, ap, ◌∙◌}
 use mathlib.Core.List.{List, [], ◌∷◌}

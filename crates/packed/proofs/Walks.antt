@@ -1,6 +1,6 @@
 -- A walk over the numbers from a node on ends where the subtree of that node closes, and only there.
 --     walk_closes     where a tree's shape stands at the node, the walk closes behind it
---     walk_tree, walk-large, walk-open     what the walk from node 0 says of the shape in the numbers
+--     walk_tree, walk_large, walk_open     what the walk from node 0 says of the shape in the numbers
 -- Assumes nothing.
 use mathlib.Core.Path.{◌≡◌, refl, sym, ap, ap₂, subst, ◌∙◌}
 use mathlib.Core.Bool.{Bool, true, false, cond}

@@ -1,6 +1,6 @@
 -- A caret grown at a leaf (02, [6]): in a tree, by the leaf's address, and in a shape, by the leaf's number.
 --     grown t u       the tree t with a caret of two leaves in place of the leaf at the address u
---     grow_at s k      the shape s with a caret and two leaves in place of leaf k
+--     grow_at s k     the shape s with a caret and two leaves in place of leaf k
 --     grown_shape s k  that shape, or 15 where there is no leaf k or one caret too many
 -- Assumes nothing.
 use Rattle.std.specs.Prelude.{cond, List, [], ◌∷◌, ℕ, zero, suc, ltb}

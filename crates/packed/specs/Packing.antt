@@ -1,11 +1,11 @@
 -- Packed shapes, with a summary (02, [6]): a shape 64 nodes to a number, and beside it, for each number, the carets in
 -- all numbers before it.
---     carets_before_value s k     the carets before node k: among the nodes with smaller numbers
---     numbers_for s, summary_for s   the numbers of a shape, and its summary
+--     carets_before_value s k  the carets before node k: among the nodes with smaller numbers
+--     numbers_for s, summary_for s  the numbers of a shape, and its summary
 --     Packs s xs ys        the numbers xs and the summary ys begin with those of the shape s
---     tree_shape_lem s          the bytes s, or 15 where they are no tree within the bound
---     shape_in xs           the nodes that the numbers xs begin with, up to where the tree closes
---     packed_shape xs ys    the byte shape of a packed one, or 15
+--     tree_shape_lem s     the bytes s, or 15 where they are no tree within the bound
+--     shape_in xs          the nodes that the numbers xs begin with, up to where the tree closes
+--     packed_shape xs ys   the byte shape of a packed one, or 15
 -- Assumes nothing.
 use Rattle.std.specs.Prelude.{◌≡◌, Bool, false, cond, List, ℕ, ◌*◌, length, take, ltb}
 use Rattle.lists.specs.Entries.{total}

@@ -58,7 +58,8 @@ module _ {s z b a : List ℕ} {f : Form} (c : Cleared (suc limit) z) (r : Read s
   pub length_read : (count : Form → ℕ) → ((g : Form) → count g ≡ form_length g)
       → (l : Length) → length_of l ≡ table_length b a → reply_of (length_in l) ≡ valued count (decode s)
   length_read count same l e =
-      passed_on l (e ∙ ap (λ (o : Outcome ℕ). then o (λ n. accepted (pair_length (tree_of n a) (tree_of n b)))) fit_tables
+      passed_on l (e
+      ∙ ap (λ (o : Outcome ℕ). then o (λ n. accepted (pair_length (tree_of n a) (tree_of n b)))) fit_tables
       ∙ ap₂ (λ (t u : Tree). accepted (pair_length t u)) minus_tree_lem plus_tree_lem
       ∙ sym (ap accepted (same f)))
       ∙ sym (ap (valued count) r.decodes)
@@ -96,8 +97,8 @@ module _ {s z b a : List ℕ} {f : Form} (c : Cleared (suc limit) z) (r : Read s
     pub pair_read : Paired s m p m' p' (pairing_in x)
     pair_read = go (ltb (length m) (shape_size (carets_of f))) (ltb (length p) (shape_size (carets_of f))) refl refl
       where
-        go : (k l : Bool) → ltb (length m) (shape_size (carets_of f)) ≡ k → ltb (length p) (shape_size (carets_of f)) ≡ l
-            → Paired s m p m' p' (pairing_in x)
+        go : (k l : Bool) → ltb (length m) (shape_size (carets_of f)) ≡ k
+            → ltb (length p) (shape_size (carets_of f)) ≡ l → Paired s m p m' p' (pairing_in x)
         go true l ek el = pair_short (rw (fit_tables, ek) refl) (rw (r.decodes, ek) refl)
         go false true ek el = pair_short (rw (fit_tables, ek, el) refl) (rw (r.decodes, ek, el) refl)
         go false false ek el = pair_long (rw (fit_tables, ek, el) refl) (rw (r.decodes, ek, el) refl)

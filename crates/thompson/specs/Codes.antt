@@ -1,7 +1,7 @@
 -- Outcomes as two numbers, for C and Rust: a refusal's number and place, or 0 and the call's value; a filing has four.
---     code_of, code_of_decision     the two numbers of an outcome, of a decision on two words
---     outcome_of, decision_in      what a caller reads in the two numbers
---     code_of_reply, reply_in       the four numbers of a filing, and what a caller reads in them
+--     code_of, code_of_decision  the two numbers of an outcome, of a decision on two words
+--     outcome_of, decision_in    what a caller reads in the two numbers
+--     code_of_reply, reply_in    the four numbers of a filing, and what a caller reads in them
 --     Passed code contract r     the contract of every exported call, over the contract of the call it passes on to
 -- Assumes nothing.
 use Rattle.std.specs.Prelude.{◌≡◌, ℕ, zero, suc, ◌+◌, ◌*◌, ◌/◌, ◌%◌}

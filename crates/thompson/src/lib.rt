@@ -1,6 +1,6 @@
 // The calls for C and Rust. Each passes on to the proved call and answers two numbers: the refusal's number and place,
 // or 0 and the call's value. In the two-word call 256 is added to the number where the second word is refused. A filing
-// answers two numbers more.
+// answers two numbers more. Crate thompson_c exports them, each under its name.
 #![tactic(auto)]
 
 ghost use Rattle.std.specs.Prelude.{◌≡◌};

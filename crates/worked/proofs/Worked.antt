@@ -128,7 +128,8 @@ phrased_dead_end = record {
   recorded = ap encode (powers_again dead_end (form_canonical (word "aabAAAAAbaaaB")));
   phrased =
       ap (λ (o : Outcome Form). then o (λ f. fitting (length (form_text f)) (form_text f) dead_end_text)) read_dead_end
-      ∙ fit_long (length (form_text dead_end)) (form_text dead_end) dead_end_text (omega (arith, ap length text_dead_end))
+      ∙ fit_long (length (form_text dead_end)) (form_text dead_end) dead_end_text
+      (omega (arith, ap length text_dead_end))
       ∙ ap accepted (sym text_dead_end);
 }
 

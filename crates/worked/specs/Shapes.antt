@@ -1,19 +1,19 @@
 -- Packed shapes of 02, [6], worked out: rows of one claim, over the definitions that the calls' contracts cite. A
 -- comment gives the long numbers in hexadecimal.
 --     WorkedShapes         the rows
---     right_comb n          the tree of n carets, each the right child of the one before
---     left_spine n          the tree of n carets, each the left child of the one before
+--     right_comb n         the tree of n carets, each the right child of the one before
+--     left_spine n         the tree of n carets, each the left child of the one before
 --     PackedAs t xs ys     the tree t is packed as the numbers xs with the summary ys, and read back from them
 --     GrownAs t k xs ys xs' ys'   the tree t in xs and ys grows a caret at leaf k, which leaves xs' and ys'
 -- Names used, and where each is defined:
 --     Tree; shape t           trees; the bytes of a tree                                   trees, Trees, Shapes
---     numbers_for, summary_for  the numbers and the summary of a shape                       packed, Packing
---     packed_shape xs ys       the byte shape of a packed one, or 15                        packed, Packing
---     grow_at s k, growing     a caret in place of leaf k; in a packed shape, or a refusal  packed, Growing, Contracts
+--     numbers_for, summary_for  the numbers and the summary of a shape                     packed, Packing
+--     packed_shape xs ys      the byte shape of a packed one, or 15                        packed, Packing
+--     grow_at s k, growing    a caret in place of leaf k; in a packed shape, or a refusal  packed, Growing, Promises
 --     filled m f t            the table t with the first m values of f at its front        lists, Tables
---     number_at s j            an entry of the numbers of a shape                           bitrows, Numbers
---     summary_at s j           an entry of its summary                                      packed, Packing
---     numbers_of_value n             how many numbers n nodes take                                bitrows, Numbers
+--     number_at s j           an entry of the numbers of a shape                           bitrows, Numbers
+--     summary_at s j          an entry of its summary                                      packed, Packing
+--     numbers_of_value n      how many numbers n nodes take                                bitrows, Numbers
 -- Assumes nothing.
 use Rattle.std.specs.Prelude.{◌≡◌, List, [], ◌∷◌, ℕ, zero, suc, length}
 use Rattle.lists.specs.Tables.{filled}

@@ -1,8 +1,8 @@
 -- A caret and a leaf put in front of a node, in a shape and in a number.
 --     inserted s v       the shape with both in front of node v
---     opened_number x p   the number with both in front of its node p, which has moved two bits up with those behind it
+--     opened_number x p  the number with both in front of its node p, which has moved two bits up with those behind it
 --     carried_number x p  the two nodes that then go on to the next number
---     carry_into s v i    the two nodes that have gone on to number i of the grown shape
+--     carry_into s v i   the two nodes that have gone on to number i of the grown shape
 -- Inside: no claim reaches these definitions; a reader of the claims need not believe them. Assumes nothing.
 use Rattle.std.specs.Prelude.{◌≡◌, List, ◌∷◌, ◌++◌, ℕ, ◌+◌, ◌*◌, ◌/◌, ◌%◌, ◌^◌, ◌≤◌, ◌<◌, length, take, drop, get_or}
 use Rattle.std.specs.Int.Count.{ones}

@@ -3,7 +3,8 @@
 --     Leaves s p q         behind the nodes s, q of p subtrees are to come
 --     Walked xs from r     a walk over the numbers xs from a node on has come to r
 -- Inside: no claim reaches these definitions; a reader of the claims need not believe them. Assumes nothing.
-use Rattle.std.specs.Prelude.{◌≡◌, ◌⊎◌, List, [], ◌∷◌, ◌++◌, ℕ, zero, suc, ◌+◌, ◌-◌, ◌*◌, ◌/◌, ◌%◌, ◌^◌, ◌<◌, ◌≤◌, min, length, take, drop, get_or}
+use Rattle.std.specs.Prelude.{◌≡◌, ◌⊎◌, List, [], ◌∷◌, ◌++◌, ℕ, zero, suc, ◌+◌, ◌-◌, ◌*◌, ◌/◌, ◌%◌, ◌^◌, ◌<◌, ◌≤◌, min}
+use Rattle.std.specs.Prelude.{length, take, drop, get_or}
 use Rattle.lists.specs.Entries.{total}
 use Rattle.trees.specs.Pairs.{max_carets}
 use Rattle.trees.specs.Shapes.{shape_size, span}

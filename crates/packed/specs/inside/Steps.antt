@@ -1,10 +1,11 @@
 -- The steps of the functions.
---     is_tree_value s           the bytes s are the shape of a tree within the bound
---     shape_of xs n       the first n nodes in the numbers xs
+--     is_tree_value s    the bytes s are the shape of a tree within the bound
+--     shape_of xs n      the first n nodes in the numbers xs
 --     Summed xs ys n     each of the first n entries of the summary ys counts the ones of the numbers before it
 --     Held xs ys n       n nodes of the numbers xs are a shape, and ys is its summary
 -- Inside: no claim reaches these definitions; a reader of the claims need not believe them. Assumes nothing.
-use Rattle.std.specs.Prelude.{◌≡◌, Bool, true, false, cond, List, [], ◌∷◌, ℕ, ◌+◌, ◌-◌, ◌*◌, ◌/◌, ◌%◌, ◌^◌, ◌<◌, ◌≤◌, ltb, length, take, get_or}
+use Rattle.std.specs.Prelude.{◌≡◌, Bool, true, false, cond, List, [], ◌∷◌, ℕ, ◌+◌, ◌-◌, ◌*◌, ◌/◌, ◌%◌, ◌^◌, ◌<◌, ◌≤◌}
+use Rattle.std.specs.Prelude.{ltb, length, take, get_or}
 use Rattle.std.specs.Int.Count.{ones}
 use Rattle.trees.specs.Pairs.{max_carets}
 use Rattle.trees.specs.Shapes.{shape_size}
