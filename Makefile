@@ -22,7 +22,7 @@ BUILD ?= target/install
 VERSION := $(shell sed -n 's/^.define THOMPSON_VERSION "\(.*\)"$$/\1/p' include/thompson.h)
 SONAME := libthompson.so.$(firstword $(subst ., ,$(VERSION)))
 SHARED := libthompson.so.$(VERSION)
-SOURCES := crates.txt $(shell find crates -name '*.rt' -o -name '*.antt')
+SOURCES := crates.txt $(shell find crates -name out -prune -o \( -name '*.rt' -o -name '*.antt' \) -print)
 ARCHIVES := $(BUILD)/libthompson.a $(BUILD)/libreceiving.a $(BUILD)/libconsole.a
 PROGRAMS := $(BUILD)/receipt $(BUILD)/register $(BUILD)/thompsonf
 PAGES_1 := receipt.1 register.1 thompsonf.1
@@ -34,22 +34,24 @@ PAGES_3 := thompson.3
 
 all: $(ARCHIVES) $(BUILD)/$(SHARED) $(PROGRAMS) $(BUILD)/thompson.pc $(BUILD)/man/thompson.3
 
+# What C calls of a library NAME is exported by the static library NAME_c over it.
 $(ARCHIVES): $(BUILD)/lib%.a: $(SOURCES)
-	rt staticlib $*
+	cd crates/$*_c && rt lib
 	@mkdir -p $(BUILD)
-	cp target/staticlib/lib$*.a $@
+	cp crates/$*_c/out/lib$*_c.a $@
 
+# rt links a program in order to run it: here with no arguments, so that it writes its usage and touches nothing.
 $(BUILD)/register: $(SOURCES)
-	rt check register
+	cd crates/register && rt check && rt run < /dev/null > /dev/null 2>&1
 	@mkdir -p $(BUILD)
-	cp target/bin/register $@
+	cp crates/register/out/register $@
 
-# The C code of the kit by which a program has its arguments; a program that rt links has it already.
+# The C code of the kit by which the archives know why a read or a write failed; a program that rt links has it already.
 $(BUILD)/libos_c.a:
 	@mkdir -p $(BUILD)
-	guide=$$(rt doc) && cp "$${guide%/docs/*}/lib/libos_c.a" $@
+	page=$$(rt doc) && cp "$${page%/*}/c/libos_c.a" $@
 
-$(BUILD)/receipt: programs/receipt.c $(BUILD)/libreceiving.a
+$(BUILD)/receipt: programs/receipt.c $(BUILD)/libreceiving.a $(BUILD)/libos_c.a
 	$(CC) -std=c99 $(CFLAGS) $(LDFLAGS) -o $@ $^
 
 $(BUILD)/thompsonf: programs/thompsonf.c $(BUILD)/libconsole.a $(BUILD)/libos_c.a

@@ -1,4 +1,7 @@
-// The arguments of the command line.
+// The arguments of the command line, the program's name among them as argument 0.
+ghost use Rattle.std.specs.Prelude.{◌≤◌, length};
+
+use std::env::{Env, FillError};
 
 // The bytes of the longest argument that a system hands over, and one more.
 pub const ARGUMENT: usize = 131072;
@@ -6,11 +9,41 @@ pub const ARGUMENT: usize = 131072;
 // One above the highest line number that can be asked for.
 const HIGHEST: u64 = u64::MAX / 10 - 2;
 
-// Whether argument i is a name.
-pub fn is(i: usize, name: &[u8]) -> bool {
+// Whether there is an argument i.
+fn is_there<E: Env>(words: &E, i: usize) -> bool {
     let mut word = [0u8; 16];
-    let n = os::arg(i, &mut word);
-    check::same(&word[..n], name)
+    match words.arg(i, &mut word) {
+        Ok(_) => true,
+        Err(FillError::TooLong) => true,
+        Err(FillError::NotPresent) => false,
+    }
+}
+
+// How many arguments there are.
+pub fn count<E: Env>(words: &E) -> usize {
+    for i in 0..usize::MAX {
+        if !is_there(words, i) {
+            return i;
+        }
+    }
+    usize::MAX
+}
+
+// Puts argument i at the front of a buffer: how many bytes it has, 0 where there is none or where it does not fit.
+pub fn put<E: Env>(words: &E, i: usize, out: &mut [u8]) -> usize
+    ensures { result ≤ length out.new }
+{
+    match words.arg(i, out) {
+        Ok(n) => n,
+        Err(_) => 0,
+    }
+}
+
+// Whether argument i is a name.
+pub fn is<E: Env>(words: &E, i: usize, name: &[u8]) -> bool {
+    let mut word = [0u8; 16];
+    let n = put(words, i, &mut word);
+    &word[..n] == name
 }
 
 // One more digit behind a number; 0 stands for what is no number, and has no digit behind it.
@@ -59,8 +92,8 @@ fn value(digits: &[u8]) -> u64 {
 }
 
 // Argument i as a number from 1 on, or 0.
-pub fn number(i: usize) -> u64 {
+pub fn number<E: Env>(words: &E, i: usize) -> u64 {
     let mut digits = [0u8; 20];
-    let n = os::arg(i, &mut digits);
+    let n = put(words, i, &mut digits);
     value(&digits[..n])
 }

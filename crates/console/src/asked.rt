@@ -3,16 +3,17 @@ use crate::arguments::ARGUMENT;
 use crate::drawn::{NONE, draw_read};
 use crate::inputs::PART;
 use crate::output::{Held, OUTPUT};
-use crate::{inputs, output, parts};
+use crate::{arguments, inputs, output, parts};
 use commands::{ANSWER, Answer, Question, ROOM, reading};
 use hexadecimal::Amid;
-use libc::STDIN_FILENO;
+use std::env::Env;
+use std::io::Read;
 
 // The bytes of a record that are kept: one more than two fields can be.
 const BYTES: usize = 2 * (3 + 65535) + 1;
 
 // Behind a part of the input: whether there may be more, what is kept of the line, and the answers.
-#[derive(Drop)]
+#[derive(Clone, Copy)]
 pub struct Turn {
     pub more: bool,
     pub amid: Amid,
@@ -113,7 +114,8 @@ fn last(t: Turn, end: bool) -> Turn {
 }
 
 // One part of the input: read, answered and written.
-fn take_part(
+fn take_part<R: Read>(
+    input: &mut R,
     question: Question,
     style: u8,
     bytes: &mut [u8; BYTES],
@@ -121,11 +123,13 @@ fn take_part(
     t: Turn,
 ) -> Turn {
     let mut part = [0u8; PART];
-    let got = libc::read(STDIN_FILENO, &mut part);
-    if got <= 0 {
-        return last(t, inputs::is_end(got));
+    let Ok(n) = input.read(&mut part) else {
+        inputs::complain();
+        return last(t, false);
+    };
+    if n == 0 {
+        return last(t, true);
     }
-    let n = io::count(got, &part);
     let taken = take_lines(question, style, &part[..n], bytes, out, t);
     let amid = taken.amid;
     let answered = taken.held;
@@ -139,7 +143,8 @@ fn take_part(
 
 // All parts of the input. A proved loop has to end, and nothing says that an input does: the loop counts its turns down
 // from a number that no run uses up.
-fn take_all(
+fn take_all<R: Read>(
+    input: &mut R,
     question: Question,
     style: u8,
     bytes: &mut [u8; BYTES],
@@ -153,7 +158,7 @@ fn take_all(
     let mut turns = u64::MAX;
     while turns > 0 && t.more {
         turns -= 1;
-        t = take_part(question, style, bytes, out, t);
+        t = take_part(input, question, style, bytes, out, t);
     }
     t
 }
@@ -163,11 +168,11 @@ fn has_begun(amid: Amid) -> bool {
     amid.stray | (amid.offset > 0)
 }
 
-// The lines of standard input, that of an unended last line with them.
-pub fn ask_lines(question: Question, style: u8) -> u8 {
+// The lines of an input, that of an unended last line with them.
+pub fn ask_lines<R: Read>(input: &mut R, question: Question, style: u8) -> u8 {
     let mut bytes = [0u8; BYTES];
     let mut out = [0u8; OUTPUT];
-    let t = take_all(question, style, &mut bytes, &mut out);
+    let t = take_all(input, question, style, &mut bytes, &mut out);
     let held = t.held;
     if !has_begun(t.amid) || !held.well {
         return output::status(held);
@@ -179,9 +184,9 @@ pub fn ask_lines(question: Question, style: u8) -> u8 {
 }
 
 // A record in an argument.
-pub fn ask_argument(question: Question, style: u8, i: usize) -> u8 {
+pub fn ask_argument<E: Env>(words: &E, question: Question, style: u8, i: usize) -> u8 {
     let mut chars = [0u8; ARGUMENT];
-    let n = os::arg(i, &mut chars);
+    let n = arguments::put(words, i, &mut chars);
     let mut bytes = [0u8; BYTES];
     let amid = hexadecimal::read(parts::front(&chars, n), &mut bytes, hexadecimal::begin());
     let mut answer = [0u8; ANSWER];

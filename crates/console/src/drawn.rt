@@ -5,6 +5,8 @@ use crate::{arguments, asked, help, output, parts, sent};
 use commands::{ANSWER, Answer, Question, ROOM, TABLE, reading, sending};
 use drawings::{Drawn, PICTURE};
 use hexadecimal::Amid;
+use std::env::Env;
+use std::io::Read;
 
 // What is asked of a record besides a question: nothing, an SVG text, characters.
 pub const NONE: u8 = 0;
@@ -104,44 +106,44 @@ pub fn draw_word(
 }
 
 // A picture of argument i, or of lines where there is none.
-fn draw_from(style: u8, i: usize, next: usize) -> u8 {
-    let n = os::arg_count();
+fn draw_from<R: Read, E: Env>(input: &mut R, words: &E, style: u8, i: usize, next: usize) -> u8 {
+    let n = arguments::count(words);
     if n == i {
-        return asked::ask_lines(Question::Check, style);
+        return asked::ask_lines(input, Question::Check, style);
     }
     if n == next {
-        return asked::ask_argument(Question::Check, style, i);
+        return asked::ask_argument(words, Question::Check, style, i);
     }
     help::wrong()
 }
 
 // The same of a word.
-fn draw_words(kind: u8, i: usize, next: usize) -> u8 {
-    let n = os::arg_count();
+fn draw_words<R: Read, E: Env>(input: &mut R, words: &E, kind: u8, i: usize, next: usize) -> u8 {
+    let n = arguments::count(words);
     if n == i {
-        return sent::send_lines(kind);
+        return sent::send_lines(input, kind);
     }
     if n == next {
-        return sent::send_argument(kind, i);
+        return sent::send_argument(words, kind, i);
     }
     help::wrong()
 }
 
 // A picture in characters.
-fn draw_text() -> u8 {
-    if arguments::is(3, b"--word") {
-        return draw_words(sent::DRAW_TEXT, 4, 5);
+fn draw_text<R: Read, E: Env>(input: &mut R, words: &E) -> u8 {
+    if arguments::is(words, 3, b"--word") {
+        return draw_words(input, words, sent::DRAW_TEXT, 4, 5);
     }
-    draw_from(CHARACTERS, 3, 4)
+    draw_from(input, words, CHARACTERS, 3, 4)
 }
 
 // The word `draw` of the command.
-pub fn run() -> u8 {
-    if arguments::is(2, b"--text") {
-        return draw_text();
+pub fn run<R: Read, E: Env>(input: &mut R, words: &E) -> u8 {
+    if arguments::is(words, 2, b"--text") {
+        return draw_text(input, words);
     }
-    if arguments::is(2, b"--word") {
-        return draw_words(sent::DRAW, 3, 4);
+    if arguments::is(words, 2, b"--word") {
+        return draw_words(input, words, sent::DRAW, 3, 4);
     }
-    draw_from(SVG, 2, 3)
+    draw_from(input, words, SVG, 2, 3)
 }

@@ -1,8 +1,8 @@
 // What the command can be asked: all its words, one of them, its version; and a wrong call.
-use crate::texts::tell;
+use crate::texts::{STDERR, STDOUT, tell};
 use crate::topics::Page;
 use crate::{arguments, topics};
-use libc::{STDERR_FILENO, STDOUT_FILENO};
+use std::env::Env;
 
 // The words that answer words.
 fn put_words(fd: i32) -> bool {
@@ -82,7 +82,7 @@ fn put_page(fd: i32) -> bool {
 
 // A wrong call: the page on standard error, nothing on standard output.
 pub fn wrong() -> u8 {
-    put_page(STDERR_FILENO);
+    put_page(STDERR);
     2
 }
 
@@ -97,17 +97,17 @@ fn status(well: bool) -> u8 {
 
 // The page on standard output.
 fn show() -> u8 {
-    status(put_page(STDOUT_FILENO))
+    status(put_page(STDOUT))
 }
 
 // The version.
 fn version() -> u8 {
-    status(io::write_all(STDOUT_FILENO, b"thompsonf 0.7.0\n"))
+    status(io::write_all(STDOUT, b"thompsonf 0.7.0\n"))
 }
 
 // One word of the page.
-fn show_topic() -> u8 {
-    let page = topics::show();
+fn show_topic<E: Env>(words: &E) -> u8 {
+    let page = topics::show(words);
     match page {
         Page::Written => status(true),
         Page::Failed => status(false),
@@ -116,15 +116,15 @@ fn show_topic() -> u8 {
 }
 
 // Help, or no word of the command.
-pub fn run() -> u8 {
-    let n = os::arg_count();
-    if arguments::is(1, b"help") && n == 3 {
-        show_topic()
+pub fn run<E: Env>(words: &E) -> u8 {
+    let n = arguments::count(words);
+    if arguments::is(words, 1, b"help") && n == 3 {
+        show_topic(words)
     } else if n != 2 {
         wrong()
-    } else if arguments::is(1, b"--version") {
+    } else if arguments::is(words, 1, b"--version") {
         version()
-    } else if arguments::is(1, b"help") || arguments::is(1, b"--help") {
+    } else if arguments::is(words, 1, b"help") || arguments::is(words, 1, b"--help") {
         show()
     } else {
         wrong()

@@ -1,8 +1,7 @@
 // Answers in a buffer until they are written.
 use crate::parts;
-use crate::texts::tell;
+use crate::texts::{STDOUT, tell};
 use commands::{ANSWER, Answer};
-use libc::STDOUT_FILENO;
 
 // The bytes of the buffer.
 pub const OUTPUT: usize = 262144;
@@ -14,7 +13,7 @@ const MOST_HELD: usize = OUTPUT - ANSWER;
 pub const FAILED: usize = ANSWER + 1;
 
 // Behind an answer: how many bytes are held, whether all went well, and whether something was refused.
-#[derive(Drop)]
+#[derive(Clone, Copy)]
 pub struct Held {
     pub used: usize,
     pub well: bool,
@@ -32,7 +31,7 @@ pub fn begin() -> Held {
 
 // Writes bytes, and says where that fails.
 pub fn write(bytes: &[u8]) -> bool {
-    let well = io::write_all(STDOUT_FILENO, bytes);
+    let well = io::write_all(STDOUT, bytes);
     if !well {
         tell(b"thompsonf: the output cannot be written\n");
     }

@@ -2,9 +2,10 @@
 use crate::arguments::ARGUMENT;
 use crate::inputs::PART;
 use crate::output::{Held, OUTPUT};
-use crate::{drawn, inputs, output, parts};
+use crate::{arguments, drawn, inputs, output, parts};
 use commands::{ANSWER, Answer, ROOM, TABLE, TEXT, comparing, sending};
-use libc::STDIN_FILENO;
+use std::env::Env;
+use std::io::Read;
 
 // What is asked of a line of words.
 pub const RECORD: u8 = 0;
@@ -21,7 +22,7 @@ pub const DRAW_TEXT: u8 = 4;
 const LINE: usize = TEXT + 1;
 
 // Behind a part of the input: whether there may be more, how many bytes of the line are held, and the answers.
-#[derive(Drop)]
+#[derive(Clone, Copy)]
 pub struct Turn {
     pub more: bool,
     pub line: usize,
@@ -143,13 +144,21 @@ fn last(t: Turn, end: bool) -> Turn {
 }
 
 // One part of the input: read, answered and written.
-fn take_part(kind: u8, line: &mut [u8; LINE], out: &mut [u8; OUTPUT], t: Turn) -> Turn {
+fn take_part<R: Read>(
+    input: &mut R,
+    kind: u8,
+    line: &mut [u8; LINE],
+    out: &mut [u8; OUTPUT],
+    t: Turn,
+) -> Turn {
     let mut part = [0u8; PART];
-    let got = libc::read(STDIN_FILENO, &mut part);
-    if got <= 0 {
-        return last(t, inputs::is_end(got));
+    let Ok(n) = input.read(&mut part) else {
+        inputs::complain();
+        return last(t, false);
+    };
+    if n == 0 {
+        return last(t, true);
     }
-    let n = io::count(got, &part);
     let taken = take_lines(kind, &part[..n], line, out, t);
     let answered = taken.held;
     let held = output::flush(out, answered);
@@ -162,7 +171,12 @@ fn take_part(kind: u8, line: &mut [u8; LINE], out: &mut [u8; OUTPUT], t: Turn) -
 
 // All parts of the input. A proved loop has to end, and nothing says that an input does: the loop counts its turns down
 // from a number that no run uses up.
-fn take_all(kind: u8, line: &mut [u8; LINE], out: &mut [u8; OUTPUT]) -> Turn {
+fn take_all<R: Read>(
+    input: &mut R,
+    kind: u8,
+    line: &mut [u8; LINE],
+    out: &mut [u8; OUTPUT],
+) -> Turn {
     let mut t = Turn {
         more: true,
         line: 0,
@@ -171,16 +185,16 @@ fn take_all(kind: u8, line: &mut [u8; LINE], out: &mut [u8; OUTPUT]) -> Turn {
     let mut turns = u64::MAX;
     while turns > 0 && t.more {
         turns -= 1;
-        t = take_part(kind, line, out, t);
+        t = take_part(input, kind, line, out, t);
     }
     t
 }
 
-// The lines of standard input, that of an unended last line with them.
-pub fn send_lines(kind: u8) -> u8 {
+// The lines of an input, that of an unended last line with them.
+pub fn send_lines<R: Read>(input: &mut R, kind: u8) -> u8 {
     let mut line = [0u8; LINE];
     let mut out = [0u8; OUTPUT];
-    let t = take_all(kind, &mut line, &mut out);
+    let t = take_all(input, kind, &mut line, &mut out);
     let held = t.held;
     if t.line == 0 || !held.well {
         return output::status(held);
@@ -192,20 +206,20 @@ pub fn send_lines(kind: u8) -> u8 {
 }
 
 // A word or a text in an argument.
-pub fn send_argument(kind: u8, i: usize) -> u8 {
+pub fn send_argument<E: Env>(words: &E, kind: u8, i: usize) -> u8 {
     let mut word = [0u8; ARGUMENT];
-    let n = os::arg(i, &mut word);
+    let n = arguments::put(words, i, &mut word);
     let mut answer = [0u8; ANSWER];
     let a = answer_alone(kind, parts::front(&word, n), &mut answer);
     output::write_answer(&answer, a)
 }
 
 // Two words in two arguments.
-pub fn compare_arguments() -> u8 {
+pub fn compare_arguments<E: Env>(words: &E) -> u8 {
     let mut word1 = [0u8; ARGUMENT];
-    let n1 = os::arg(2, &mut word1);
+    let n1 = arguments::put(words, 2, &mut word1);
     let mut word2 = [0u8; ARGUMENT];
-    let n2 = os::arg(3, &mut word2);
+    let n2 = arguments::put(words, 3, &mut word2);
     let mut answer = [0u8; ANSWER];
     let a = compare_alone(
         parts::front(&word1, n1),

@@ -1,7 +1,11 @@
 // Text on standard error.
-use libc::STDERR_FILENO;
+
+// The numbers of standard output and standard error.
+pub const STDOUT: i32 = 1;
+
+pub const STDERR: i32 = 2;
 
 // Says what went wrong.
 pub fn tell(remark: &[u8]) {
-    io::write_all(STDERR_FILENO, remark);
+    io::write_all(STDERR, remark);
 }
