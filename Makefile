@@ -3,7 +3,7 @@
 #   make              proves and builds all, which takes some minutes the first time
 #   make install      installs it below PREFIX, with DESTDIR in front of every path
 #   make uninstall    removes what install put there
-#   make check        the gate, which proves all from nothing, and then every test outside it
+#   make check        the gate, and then every test outside it
 #   make clean        removes what was built here; what rt proved stays
 
 PREFIX ?= /usr/local
