@@ -27,11 +27,11 @@ use Rattle.worked.proofs.Shapes as Shapes
 pub claims : Claims
 claims = record {
   demanded = Demanded.demanded;
-  demanded_of_exports = Demanded.demanded_of_exports;
-  one_record = Demanded.one_record;
-  demanded_of_lists = DemandedOfLists.demanded_of_lists;
-  demanded_of_registers = DemandedOfRegisters.demanded_of_registers;
-  demanded_of_shapes = DemandedOfShapes.demanded_of_shapes;
+  demanded_of_exports = Demanded.demanded_of_exports Calls.exports;
+  one_record = Demanded.one_record Calls.exports;
+  demanded_of_lists = DemandedOfLists.demanded_of_lists Calls.exports;
+  demanded_of_registers = DemandedOfRegisters.demanded_of_registers Calls.exports;
+  demanded_of_shapes = DemandedOfShapes.demanded_of_shapes Calls.exports;
   calls = Calls.calls;
   exports = Calls.exports;
   demand1 = Demands.demand1;

@@ -38,11 +38,13 @@ use Rattle.claims.proofs.TwoWordCalls.{two_decided, own_calls}
 use Rattle.claims.proofs.SpellingCalls.{spelled_as, front_spelled, spelling_again}
 use Rattle.claims.proofs.TextCalls.{text_keeps_map, text_listed}
 use Rattle.claims.proofs.PhraseCalls.{phrase_gives, phrased_as, phrase_form}
+use Rattle.calls.specs.Functions.{Library}
+use Rattle.calls.specs.Calls.{Exports}
 use Rattle.calls.specs.Demanded.{WordToRecord, CheckRecord, RecordToTreePair, RecordToLength, RecordToWord}
 use Rattle.calls.specs.Demanded.{TextToRecord, RecordToText, TwoWords, Demanded, DemandedOfExports, Fits}
 use Rattle.calls.specs.Demanded.{OneRecord}
 use Rattle.calls.proofs.Always.{always_below}
-use Rattle.calls.proofs.Calls.{calls, exports}
+use Rattle.calls.proofs.Calls.{calls}
 
 -- Demands 1 and 2 of a call that ends with its contract.
 word_to_record_lem : {u : List ℕ} {m m' : Memory} {r : Reply} → Recorded u m m' r → WordToRecord u m m' (reply_of r)
@@ -152,8 +154,8 @@ demanded = record {
 }
 
 -- What holds of what a call answers holds of what is read in the numbers of its export.
-pub demanded_of_exports : DemandedOfExports
-demanded_of_exports = record {
+pub demanded_of_exports : {L : Library} → Exports L → DemandedOfExports L
+demanded_of_exports exports = record {
   word_to_record_lem = always_below exports.word_to_record_lem (λ κs u u' b b' a a' e e' r h.
       let m = memory b.now a.now e.now in
       let m' = memory b'.now a'.now e'.now in
@@ -236,8 +238,8 @@ phrases_record {s} n h e =
     let again = phrase_form h.are_bytes f.1 in
     (form_powers f.0, f.1.front, within_fits (product_letters (form_powers f.0)) again.within, sym again.is)
 
-pub one_record : OneRecord
-one_record = record {
+pub one_record : {L : Library} → Exports L → OneRecord L
+one_record exports = record {
   record_of = encode_word;
   equal_just_when_joined = λ w x h k.
       listed↔joined w x (record { is = refl; within = fits_within w h })

@@ -10,9 +10,11 @@ use Rattle.wordlists.specs.Listing.{Listed}
 use Rattle.claims.proofs.Demands.{demand1}
 use Rattle.claims.proofs.Exports.{exports_answer_as_calls}
 use Rattle.claims.proofs.Lists.{list_is_calls, last_word_fills}
+use Rattle.calls.specs.Functions.{Library}
+use Rattle.calls.specs.Calls.{Exports}
 use Rattle.calls.specs.DemandedOfLists.{ListToRecords, DemandedOfLists}
 use Rattle.calls.proofs.Always.{always_below}
-use Rattle.calls.proofs.Calls.{calls, exports}
+use Rattle.calls.proofs.Calls.{calls}
 
 list_to_records_lem : {list : List ℕ} {m m' : Memory} {r : Reply} → Listed list m m' r
     → ListToRecords list m m' (reply_of r)
@@ -25,8 +27,8 @@ list_to_records_lem {list} {m} {m'} {r} h =
       fills = λ n e i. last_word_fills list m m' r n h e i;
     }
 
-pub demanded_of_lists : DemandedOfLists
-demanded_of_lists = record {
+pub demanded_of_lists : {L : Library} → Exports L → DemandedOfLists L
+demanded_of_lists exports = record {
   list_to_records_lem = always_below calls.list_to_records_lem (λ κs l l' b b' a a' e e' r. list_to_records_lem);
   exported_list_to_records = always_below exports.list_to_records_lem (λ κs l l' b b' a a' e e' r h.
       let m = memory b.now a.now e.now in

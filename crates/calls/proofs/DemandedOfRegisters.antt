@@ -28,9 +28,11 @@ use Rattle.claims.proofs.Demands.{demand1}
 use Rattle.claims.proofs.Exports.{exports_answer_as_calls}
 use Rattle.claims.proofs.Registers.{registers_are_read, charges}
 use Rattle.claims.proofs.EnterCalls.{enters_words, only_new_bytes, stored_is_smaller}
+use Rattle.calls.specs.Functions.{Library}
+use Rattle.calls.specs.Calls.{Exports}
 use Rattle.calls.specs.DemandedOfRegisters.{CheckRegister, EnterWord, LiveEntries, DemandedOfRegisters}
 use Rattle.calls.proofs.Always.{always_below}
-use Rattle.calls.proofs.Calls.{calls, exports}
+use Rattle.calls.proofs.Calls.{calls}
 
 check_register_lem : {s : List ℕ} {r : Verdict} → RegisterChecked s r → CheckRegister s (verdict_of r)
 check_register_lem {s} {r} h = record {
@@ -87,8 +89,8 @@ live_read : (h : ℕ) (o : Outcome Register) (n : ℕ) → count_in h o ≡ acce
 live_read h (accepted q) n e = (q, refl, (cc))
 live_read h (refused a b) n e = absurd (accepted_refused (sym e))
 
-live-entries : {s : List ℕ} {h : ℕ} {r : AccountOf} → AccountRead s h r → LiveEntries s h (live_of r)
-live-entries {s} {h} {r} c =
+live_entries_lem : {s : List ℕ} {h : ℕ} {r : AccountOf} → AccountRead s h r → LiveEntries s h (live_of r)
+live_entries_lem {s} {h} {r} c =
     record {
       refuses = record {
         refused_just_when = just;
@@ -108,14 +110,14 @@ live-entries {s} {h} {r} c =
         let second = read↔refusal s c.are_bytes n p in
         ((λ e. second.0 (first.0 (sym is ∙ e))), λ k. is ∙ first.1 (second.1 k))
 
-pub demanded_of_registers : DemandedOfRegisters
-demanded_of_registers = record {
+pub demanded_of_registers : {L : Library} → Exports L → DemandedOfRegisters L
+demanded_of_registers exports = record {
   check_register_lem = always_below calls.check_register_lem (λ κs s s' r. check_register_lem);
   enter_word_lem = always_below calls.enter_word_lem (λ κs u u' b b' a a' e e' h h' s s' r c.
       let m = memory b.now a.now e.now in
       let m' = memory b'.now a'.now e'.now in
       (enter_word_lem c, λ x q. charges u.now m m' h s.now s'.now r x c q));
-  account_of_is = always_below calls.account_of_is (λ κs s s' h h' r. live-entries);
+  account_of_is = always_below calls.account_of_is (λ κs s s' h h' r. live_entries_lem);
   exported_check_register = always_below exports.check_register_lem (λ κs s s' r c.
       let x = exports_answer_as_calls.check_register_lem s.now r c in
       subst (λ (o : Outcome ℕ). CheckRegister s.now o) (sym x.2) (check_register_lem x.1));
@@ -126,7 +128,7 @@ demanded_of_registers = record {
         subst (λ (o : Outcome Reply). EnterWord u.now m m' h s.now s'.now o) (sym x.2) (enter_word_lem x.1),
         x.3,
       ));
-  exported_live_entries = always_below exports.live-entries (λ κs s s' h h' r c.
+  exported_live_entries = always_below exports.live_entries_lem (λ κs s s' h h' r c.
       let x = exports_answer_as_calls.live-entries s.now h r c in
-      subst (λ (o : Outcome ℕ). LiveEntries s.now h o) (sym x.2) (live-entries x.1));
+      subst (λ (o : Outcome ℕ). LiveEntries s.now h o) (sym x.2) (live_entries_lem x.1));
 }

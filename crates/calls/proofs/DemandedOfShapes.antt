@@ -14,6 +14,8 @@ use Rattle.packed.specs.declared.NodeEnd.{NodeEnd}
 use Rattle.claims.proofs.Demands.{demand1}
 use Rattle.claims.proofs.Exports.{exports_answer_as_calls}
 use Rattle.claims.proofs.PackedGiven.{shapes_given}
+use Rattle.calls.specs.Functions.{Library}
+use Rattle.calls.specs.Calls.{Exports}
 use Rattle.calls.specs.DemandedOfShapes.{
   PackShape,
   UnpackShape,
@@ -23,7 +25,7 @@ use Rattle.calls.specs.DemandedOfShapes.{
   DemandedOfShapes,
 }
 use Rattle.calls.proofs.Always.{always_below}
-use Rattle.calls.proofs.Calls.{calls, exports}
+use Rattle.calls.proofs.Calls.{calls}
 
 -- The demands on a call that ends with its contract.
 pack_shape_lem : {s x y x' y' : List ℕ} {r : Reply} → Repacked (packing s x y) x y x' y' r
@@ -69,8 +71,8 @@ grow_caret_lem {x} {y} {x'} {y'} {k} {r} h =
       gives = λ n. shapes_given.grow_caret_lem x y x' y' k r n h;
     }
 
-pub demanded_of_shapes : DemandedOfShapes
-demanded_of_shapes = record {
+pub demanded_of_shapes : {L : Library} → Exports L → DemandedOfShapes L
+demanded_of_shapes exports = record {
   pack_shape_lem = always_below calls.pack_shape_lem (λ κs s s' x x' y y' r. pack_shape_lem);
   unpack_shape_lem = always_below calls.unpack_shape_lem (λ κs x x' y y' s s' r. unpack_shape_lem);
   carets_before_lem = always_below calls.carets_before_lem (λ κs x x' y y' k k'. carets_before_lem);

@@ -5,4 +5,5 @@ pub mod Demanded
 pub mod DemandedOfLists
 pub mod DemandedOfRegisters
 pub mod DemandedOfShapes
+pub mod Exported
 pub mod Claims

@@ -3,7 +3,8 @@
 -- another contract, or with a demand on its caller, the function has no proof here. `x.now` is what stands behind the
 -- reference x: of a slice its elements. proofs/Calls.antt has the proofs, which are the functions' theorems.
 --     Calls     the calls of document 01, of 02, [1] and [3] to [6], and of the receipt program
---     Exports   the calls for C and Rust
+--     Exports   the calls for C and Rust, as the library L exports them: thompson in Claims.antt, and thompson_c, which
+--               C links, in that crate's proofs/Exported.antt
 -- Assumes nothing.
 use Rattle.std.specs.Prelude.{◌≡◌}
 use Rattle.refusals.specs.Outcomes.{verdict_of, reply_of}
@@ -31,14 +32,8 @@ use Rattle.calls.specs.Always.{Always}
 use Rattle.calls.specs.Functions.{word_to_record, list_to_records, check_record, record_to_tree_pair, record_to_length}
 use Rattle.calls.specs.Functions.{record_to_label_length, record_to_word, same_element, text_to_record, record_to_text}
 use Rattle.calls.specs.Functions.{check_register, summary, find, entry_at, enter_word, account_of, pack_shape}
-use Rattle.calls.specs.Functions.{unpack_shape, carets_before, subtree_end, grow_caret, begin, serve, finish}
-use Rattle.calls.specs.Functions.{thompson_word_to_record, thompson_list_to_records, thompson_check_record}
-use Rattle.calls.specs.Functions.{thompson_record_to_tree_pair, thompson_record_to_length}
-use Rattle.calls.specs.Functions.{thompson_record_to_label_length, thompson_record_to_word, thompson_same_element}
-use Rattle.calls.specs.Functions.{thompson_text_to_record, thompson_record_to_text, thompson_enter_word}
-use Rattle.calls.specs.Functions.{thompson_check_register, thompson_live_entries, thompson_pack_shape}
-use Rattle.calls.specs.Functions.{thompson_unpack_shape, thompson_carets_before, thompson_subtree_end}
-use Rattle.calls.specs.Functions.{thompson_grow_caret}
+use Rattle.calls.specs.Functions.{unpack_shape, carets_before, subtree_end, grow_caret, begin, serve, finish, Library}
+use Rattle.calls.specs.Functions.{export}
 
 -- The calls of the papers and of the receipt program.
 pub record Calls : Type 2 where
@@ -93,52 +88,52 @@ pub record Calls : Type 2 where
   pub finish : Always finish
       (λ κs k k' held held' line line' out out' r. Finished k held line.now out.now out'.now r)
 
--- The exports: the numbers of an answer that meets the contract of the call.
-pub record Exports : Type 2 where
-  pub word_to_record_lem : Always thompson_word_to_record
+-- The exports of L: the numbers of an answer that meets the contract of the call.
+pub record Exports (L : Library) : Type 2 where
+  pub word_to_record_lem : Always (export L.word_to_record)
       (λ κs u u' b b' a a' e e' r. Passed (λ x. code_of (reply_of x))
       (Recorded u.now (memory b.now a.now e.now) (memory b'.now a'.now e'.now)) r)
-  pub list_to_records_lem : Always thompson_list_to_records
+  pub list_to_records_lem : Always (export L.list_to_records)
       (λ κs l l' b b' a a' e e' r. Passed (λ x. code_of (reply_of x))
       (Listed l.now (memory b.now a.now e.now) (memory b'.now a'.now e'.now)) r)
-  pub check_record_lem : Always thompson_check_record
+  pub check_record_lem : Always (export L.check_record)
       (λ κs s s' r. Passed (λ x. code_of (verdict_of x)) (Checked s.now) r)
-  pub record_to_tree_pair_lem : Always thompson_record_to_tree_pair
+  pub record_to_tree_pair_lem : Always (export L.record_to_tree_pair)
       (λ κs s s' p p' q q' r. Passed (λ x. code_of (reply_of x)) (Paired s.now p.now q.now p'.now q'.now) r)
-  pub record_to_length_lem : Always thompson_record_to_length
+  pub record_to_length_lem : Always (export L.record_to_length)
       (λ κs s s' r. Passed (λ x. code_of (reply_of x)) (Measured form_length s.now) r)
-  pub record_to_label_length_lem : Always thompson_record_to_label_length
+  pub record_to_label_length_lem : Always (export L.record_to_label_length)
       (λ κs s s' r. Passed (λ x. code_of (reply_of x)) (Measured label_sum s.now) r)
-  pub record_to_word_lem : Always thompson_record_to_word
+  pub record_to_word_lem : Always (export L.record_to_word)
       (λ κs s s' t t' r. Passed (λ x. code_of (reply_of x)) (Spelled s.now t.now t'.now) r)
-  pub same_element_lem : Always thompson_same_element
+  pub same_element_lem : Always (export L.same_element)
       (λ κs u u' b b' a a' e e' v v' c c' d d' g g' r. Passed (λ x. code_of_decision (decision_of x)) (Compared
       u.now (memory b.now a.now e.now) (memory b'.now a'.now e'.now)
       v.now (memory c.now d.now g.now) (memory c'.now d'.now g'.now)) r)
-  pub text_to_record_lem : Always thompson_text_to_record
+  pub text_to_record_lem : Always (export L.text_to_record)
       (λ κs t t' b b' a a' e e' r. Passed (λ x. code_of (reply_of x))
       (TextRecorded t.now (memory b.now a.now e.now) (memory b'.now a'.now e'.now)) r)
-  pub record_to_text_lem : Always thompson_record_to_text
+  pub record_to_text_lem : Always (export L.record_to_text)
       (λ κs s s' t t' r. Passed (λ x. code_of (reply_of x)) (TextWritten s.now t.now t'.now) r)
-  pub enter_word_lem : Always thompson_enter_word
+  pub enter_word_lem : Always (export L.enter_word)
       (λ κs u u' b b' a a' e e' h h' s s' r. Passed (λ x. code_of_reply (replied_of x)) (EnteredWord u.now
       (memory b.now a.now e.now) (memory b'.now a'.now e'.now) h s.now s'.now) r)
-  pub check_register_lem : Always thompson_check_register
+  pub check_register_lem : Always (export L.check_register)
       (λ κs s s' r. Passed (λ x. code_of (verdict_of x)) (RegisterChecked s.now) r)
-  pub live-entries : Always thompson_live_entries
+  pub live_entries_lem : Always (export L.live_entries)
       (λ κs s s' h h' r. Passed (λ x. code_of (live_of x)) (AccountRead s.now h) r)
-  pub pack_shape_lem : Always thompson_pack_shape
+  pub pack_shape_lem : Always (export L.pack_shape)
       (λ κs s s' x x' y y' r. Passed (λ a. code_of (reply_of a))
       (Repacked (packing s.now x.now y.now) x.now y.now x'.now y'.now) r)
-  pub unpack_shape_lem : Always thompson_unpack_shape
+  pub unpack_shape_lem : Always (export L.unpack_shape)
       (λ κs x x' y y' s s' r. Passed (λ a. code_of (reply_of a))
       (Placed (unpacking x.now y.now s.now) s.now s'.now) r)
-  pub carets_before_lem : Always thompson_carets_before
+  pub carets_before_lem : Always (export L.carets_before)
       (λ κs x x' y y' k k' r. Passed (λ a. code_of (reply_of a))
       (λ a. AnswersNode (λ s. carets_before_value s k) x.now y.now k (reply_of a)) r)
-  pub subtree_end_lem : Always thompson_subtree_end
+  pub subtree_end_lem : Always (export L.subtree_end)
       (λ κs x x' y y' k k' r. Passed (λ a. code_of (node_end_of a))
       (λ a. AnswersNode (λ s. subtree_end_value s k) x.now y.now k (node_end_of a)) r)
-  pub grow_caret_lem : Always thompson_grow_caret
+  pub grow_caret_lem : Always (export L.grow_caret)
       (λ κs x x' y y' k k' r. Passed (λ a. code_of (reply_of a))
       (Repacked (growing x.now y.now k) x.now y.now x'.now y'.now) r)

@@ -6,6 +6,7 @@ use Rattle.calls.specs.DemandedOfLists.{DemandedOfLists}
 use Rattle.calls.specs.DemandedOfRegisters.{DemandedOfRegisters}
 use Rattle.calls.specs.DemandedOfShapes.{DemandedOfShapes}
 use Rattle.calls.specs.Calls.{Calls, Exports}
+use Rattle.calls.specs.Functions.{thompson}
 use Rattle.claims.specs.Demands.{Demand1, Demand2, Demand3}
 use Rattle.claims.specs.Exports.{ExportsAnswerAsCalls}
 use Rattle.claims.specs.Records.{RecordsOfForms, RecordsAreRead, RecordHasOneForm, RecordsAreAccepted}
@@ -33,17 +34,17 @@ use Rattle.worked.specs.Shapes.{WorkedShapes}
 pub record Claims : Type 2 where
   -- The demands, said of the functions and of the exports: calls, Demanded.
   pub demanded : Demanded
-  pub demanded_of_exports : DemandedOfExports
-  pub one_record : OneRecord
+  pub demanded_of_exports : DemandedOfExports thompson
+  pub one_record : OneRecord thompson
   -- The same of the list call: calls, DemandedOfLists.
-  pub demanded_of_lists : DemandedOfLists
+  pub demanded_of_lists : DemandedOfLists thompson
   -- The same of the register's calls: calls, DemandedOfRegisters.
-  pub demanded_of_registers : DemandedOfRegisters
+  pub demanded_of_registers : DemandedOfRegisters thompson
   -- The same of the calls on packed shapes: calls, DemandedOfShapes.
-  pub demanded_of_shapes : DemandedOfShapes
+  pub demanded_of_shapes : DemandedOfShapes thompson
   -- That the contracts of the claims are those of the functions: calls, Calls.
   pub calls : Calls
-  pub exports : Exports
+  pub exports : Exports thompson
   -- The demands over the contracts: claims, Demands.
   pub demand1 : Demand1
   pub demand2 : Demand2

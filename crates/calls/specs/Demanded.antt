@@ -1,8 +1,10 @@
 -- The three demands of document 01, with the calls of 02, [1] and [5], said of the functions themselves and of the
 -- exports for C and Rust: of what is lent to a call, of what it leaves, and of its answer. No contract stands in it.
--- Read this file first; docs/DECISIONS.md quotes the demands as they were set. proofs/Demanded.antt has the proofs.
+-- Read this file first; docs/DECISIONS.md quotes the demands as they were set. proofs/Demanded.antt has the proofs, for
+-- every library L whose exports end with their contracts (`Exports`, in Calls.antt): thompson, and thompson_c for C.
 --     Always f R        every call of the function f, on any arguments, returns, with R of its arguments as they were
 --                       and as they are at exit, and of its answer; nothing is asked of the caller
+--     export L.f        the export of L that stands for f
 -- Letters: u, v bytes lent as a word; w, x words; s bytes lent as a record; m, k memory lent with a word or a text: b
 -- table, a table and record buffer, which are b, a, e of the first word and c, d, g of the second; p, q buffers for
 -- shapes; t bytes lent as a text, or a buffer for letters or a text; ps powers; r an answer, o an outcome or a
@@ -51,9 +53,7 @@ use Rattle.claims.specs.Given.{RecordOfText, TextOfRecord}
 use Rattle.calls.specs.Always.{Always}
 use Rattle.calls.specs.Functions.{word_to_record, check_record, record_to_tree_pair, record_to_length}
 use Rattle.calls.specs.Functions.{record_to_label_length, record_to_word, same_element, text_to_record, record_to_text}
-use Rattle.calls.specs.Functions.{thompson_word_to_record, thompson_check_record, thompson_record_to_tree_pair}
-use Rattle.calls.specs.Functions.{thompson_record_to_length, thompson_record_to_label_length, thompson_record_to_word}
-use Rattle.calls.specs.Functions.{thompson_same_element, thompson_text_to_record, thompson_record_to_text}
+use Rattle.calls.specs.Functions.{Library, export}
 
 -- What demands 1 (`refuses`, `unaltered`) and 2 (`gives`, `accepts`) say of one call. Word to record.
 pub record WordToRecord (u : List ℕ) (m m' : Memory) (o : Outcome ℕ) : Type 0 where
@@ -127,30 +127,30 @@ pub record Demanded : Type 2 where
   pub record_to_text_lem : Always record_to_text
       (λ κs s s' t t' r. RecordToText s.now t.now t'.now (reply_of r))
 
--- The same of the exports; the numbers on two words are just those of the decision that is read in them.
-pub record DemandedOfExports : Type 2 where
-  pub word_to_record_lem : Always thompson_word_to_record
+-- The same of the exports of L; the numbers on two words are just those of the decision that is read in them.
+pub record DemandedOfExports (L : Library) : Type 2 where
+  pub word_to_record_lem : Always (export L.word_to_record)
       (λ κs u u' b b' a a' e e' r. WordToRecord u.now (memory b.now a.now e.now)
       (memory b'.now a'.now e'.now) (outcome_of r))
-  pub check_record_lem : Always thompson_check_record
+  pub check_record_lem : Always (export L.check_record)
       (λ κs s s' r. CheckRecord s.now (outcome_of r))
-  pub record_to_tree_pair_lem : Always thompson_record_to_tree_pair
+  pub record_to_tree_pair_lem : Always (export L.record_to_tree_pair)
       (λ κs s s' p p' q q' r. RecordToTreePair s.now p.now q.now p'.now q'.now (outcome_of r))
-  pub record_to_length_lem : Always thompson_record_to_length
+  pub record_to_length_lem : Always (export L.record_to_length)
       (λ κs s s' r. RecordToLength s.now (outcome_of r))
-  pub record_to_label_length_lem : Always thompson_record_to_label_length
+  pub record_to_label_length_lem : Always (export L.record_to_label_length)
       (λ κs s s' r. RecordToLength s.now (outcome_of r))
-  pub record_to_word_lem : Always thompson_record_to_word
+  pub record_to_word_lem : Always (export L.record_to_word)
       (λ κs s s' t t' r. RecordToWord s.now t.now t'.now (outcome_of r))
-  pub same_element_lem : Always thompson_same_element
+  pub same_element_lem : Always (export L.same_element)
       (λ κs u u' b b' a a' e e' v v' c c' d d' g g' r. TwoWords
       u.now (memory b.now a.now e.now) (memory b'.now a'.now e'.now)
       v.now (memory c.now d.now g.now) (memory c'.now d'.now g'.now) (decision_in r)
       × (r ≡ code_of_decision (decision_in r)))
-  pub text_to_record_lem : Always thompson_text_to_record
+  pub text_to_record_lem : Always (export L.text_to_record)
       (λ κs t t' b b' a a' e e' r. TextToRecord t.now (memory b.now a.now e.now)
       (memory b'.now a'.now e'.now) (outcome_of r))
-  pub record_to_text_lem : Always thompson_record_to_text
+  pub record_to_text_lem : Always (export L.record_to_text)
       (λ κs s s' t t' r. RecordToText s.now t.now t'.now (outcome_of r))
 
 -- The reduced form with the word's map is within the limits: so it is of every word of at most as many letters as the
@@ -165,33 +165,33 @@ pub record Fits (w : Word) : Type 0 where
 -- Demand 3: every word has one record, which each accepted call on it writes, in letters or in subscript notation and
 -- whatever the lent memory held; and two words whose forms are within the limits have the same record just when a chain
 -- joins them. The word and the text that are written for a record have that record.
-pub record OneRecord : Type 2 where
+pub record OneRecord (L : Library) : Type 2 where
   pub record_of : Word → List ℕ
   pub equal_just_when_joined : (w x : Word) → Fits w → Fits x → (record_of w ≡ record_of x) ↔ Joined w x
   pub short_fits : (w : Word) → length w ≤ limit → Fits w
   pub written : Always word_to_record (λ κs u u' b b' a a' e e' r.
       (w : Word) (n : ℕ) → u.now ≡ bytes_of w → reply_of r ≡ accepted n
       → (length w ≤ limit) × (take n e'.now ≡ record_of w))
-  pub exported : Always thompson_word_to_record
+  pub exported : Always (export L.word_to_record)
       (λ κs u u' b b' a a' e e' r. (w : Word) (n : ℕ) → u.now ≡ bytes_of w → outcome_of r ≡ accepted n
       → (length w ≤ limit) × (take n e'.now ≡ record_of w))
   pub written_text : Always text_to_record (λ κs t t' b b' a a' e e' r.
       (ps : List SignedPower) (n : ℕ) → t.now ≡ text_of ps → reply_of r ≡ accepted n
       → Fits (product_letters ps) × (take n e'.now ≡ record_of (product_letters ps)))
-  pub exported_text : Always thompson_text_to_record
+  pub exported_text : Always (export L.text_to_record)
       (λ κs t t' b b' a a' e e' r. (ps : List SignedPower) (n : ℕ) → t.now ≡ text_of ps → outcome_of r ≡ accepted n
       → Fits (product_letters ps) × (take n e'.now ≡ record_of (product_letters ps)))
   pub spelled : Always record_to_word (λ κs s s' t t' r.
       (n : ℕ) → reply_of r ≡ accepted n
       → (x : Word) × (take n t'.now ≡ bytes_of x) × (length x ≤ limit) × (record_of x ≡ s.now))
-  pub spelled_exported : Always thompson_record_to_word
+  pub spelled_exported : Always (export L.record_to_word)
       (λ κs s s' t t' r. (n : ℕ) → outcome_of r ≡ accepted n
       → (x : Word) × (take n t'.now ≡ bytes_of x) × (length x ≤ limit) × (record_of x ≡ s.now))
   pub phrased : Always record_to_text (λ κs s s' t t' r.
       (n : ℕ) → reply_of r ≡ accepted n
       → (ps : List SignedPower) × (take n t'.now ≡ text_of ps) × Fits (product_letters ps)
       × (record_of (product_letters ps) ≡ s.now))
-  pub phrased_exported : Always thompson_record_to_text
+  pub phrased_exported : Always (export L.record_to_text)
       (λ κs s s' t t' r. (n : ℕ) → outcome_of r ≡ accepted n
       → (ps : List SignedPower) × (take n t'.now ≡ text_of ps) × Fits (product_letters ps)
       × (record_of (product_letters ps) ≡ s.now))

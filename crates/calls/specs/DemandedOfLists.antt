@@ -22,7 +22,7 @@ use Rattle.thompson.specs.Codes.{outcome_of}
 use Rattle.claims.specs.Answers.{Refuses, IsRefused}
 use Rattle.claims.specs.Lists.{ListRefusal, LineCall, lines_called, CallsFrom, SameAsCalls, EntryBehind}
 use Rattle.calls.specs.Always.{Always}
-use Rattle.calls.specs.Functions.{list_to_records, thompson_list_to_records}
+use Rattle.calls.specs.Functions.{list_to_records, Library, export}
 
 -- Many words in one call: refused by 6 and 7 with nothing altered, and else as one call a word.
 pub record ListToRecords (list : List ℕ) (m m' : Memory) (o : Outcome ℕ) : Type 0 where
@@ -32,11 +32,11 @@ pub record ListToRecords (list : List ℕ) (m m' : Memory) (o : Outcome ℕ) : T
       → CallsFrom cs m.b m.a b' a' → SameAsCalls m m' n cs b' a'
   pub fills : (n : ℕ) → o ≡ accepted n → (i : ℕ) → EntryBehind (lines_of list) m m' i
 
--- The function, then the export.
-pub record DemandedOfLists : Type 2 where
+-- The function, then the export of L.
+pub record DemandedOfLists (L : Library) : Type 2 where
   pub list_to_records_lem : Always list_to_records
       (λ κs l l' b b' a a' e e' r. ListToRecords l.now (memory b.now a.now e.now)
       (memory b'.now a'.now e'.now) (reply_of r))
-  pub exported_list_to_records : Always thompson_list_to_records
+  pub exported_list_to_records : Always (export L.list_to_records)
       (λ κs l l' b b' a a' e e' r. ListToRecords l.now (memory b.now a.now e.now)
       (memory b'.now a'.now e'.now) (outcome_of r))

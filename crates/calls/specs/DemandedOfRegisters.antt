@@ -30,8 +30,7 @@ use Rattle.claims.specs.Answers.{Refuses, IsRefused}
 use Rattle.claims.specs.Registers.{IsRegister, RegisterRefusal, EnterRefusal, EnteredAs, OnlyNew, StoredSmaller}
 use Rattle.claims.specs.Registers.{Charged}
 use Rattle.calls.specs.Always.{Always}
-use Rattle.calls.specs.Functions.{check_register, enter_word, account_of, thompson_enter_word, thompson_check_register}
-use Rattle.calls.specs.Functions.{thompson_live_entries}
+use Rattle.calls.specs.Functions.{check_register, enter_word, account_of, Library, export}
 
 -- Register check; nothing is lent to write to.
 pub record CheckRegister (s : List ℕ) (o : Outcome ℕ) : Type 0 where
@@ -53,8 +52,8 @@ pub record LiveEntries (s : List ℕ) (h : ℕ) (o : Outcome ℕ) : Type 0 where
   pub refuses : Refuses o (RegisterRefusal s)
   pub gives : (n : ℕ) → o ≡ accepted n → (q : Register) × WellFormed s q × (n ≡ live h q.entries)
 
--- The functions, then the exports; the numbers of a filing are just those of the reply that is read in them.
-pub record DemandedOfRegisters : Type 2 where
+-- The functions, then the exports of L; the numbers of a filing are just those of the reply that is read in them.
+pub record DemandedOfRegisters (L : Library) : Type 2 where
   pub check_register_lem : Always check_register
       (λ κs s s' r. CheckRegister s.now (verdict_of r))
   pub enter_word_lem : Always enter_word
@@ -63,10 +62,10 @@ pub record DemandedOfRegisters : Type 2 where
       × ((x : Answer) → entered_of r ≡ accepted x → Charged h s.now s'.now x))
   pub account_of_is : Always account_of
       (λ κs s s' h h' r. LiveEntries s.now h (live_of r))
-  pub exported_check_register : Always thompson_check_register
+  pub exported_check_register : Always (export L.check_register)
       (λ κs s s' r. CheckRegister s.now (outcome_of r))
-  pub exported_enter_word : Always thompson_enter_word
+  pub exported_enter_word : Always (export L.enter_word)
       (λ κs u u' b b' a a' e e' h h' s s' r. EnterWord u.now (memory b.now a.now e.now)
       (memory b'.now a'.now e'.now) h s.now s'.now (reply_in r) × (r ≡ code_of_reply (reply_in r)))
-  pub exported_live_entries : Always thompson_live_entries
+  pub exported_live_entries : Always (export L.live_entries)
       (λ κs s s' h h' r. LiveEntries s.now h (outcome_of r))

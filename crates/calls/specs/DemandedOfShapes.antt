@@ -18,9 +18,7 @@ use Rattle.claims.specs.Answers.{Refuses, IsRefused}
 use Rattle.claims.specs.Packed.{PackRefusal, UnpackRefusal, NodeRefusal, GrowRefusal}
 use Rattle.claims.specs.Packed.{PackGiven, UnpackGiven, CaretsGiven, EndGiven, GrowGiven}
 use Rattle.calls.specs.Always.{Always}
-use Rattle.calls.specs.Functions.{pack_shape, unpack_shape, carets_before, subtree_end, grow_caret, thompson_pack_shape}
-use Rattle.calls.specs.Functions.{thompson_unpack_shape, thompson_carets_before, thompson_subtree_end}
-use Rattle.calls.specs.Functions.{thompson_grow_caret}
+use Rattle.calls.specs.Functions.{pack_shape, unpack_shape, carets_before, subtree_end, grow_caret, Library, export}
 
 -- A shape packed.
 pub record PackShape (s x y x' y' : List ℕ) (o : Outcome ℕ) : Type 0 where
@@ -50,8 +48,8 @@ pub record GrowCaret (x y x' y' : List ℕ) (k : ℕ) (o : Outcome ℕ) : Type 0
   pub unaltered : IsRefused o → (x' ≡ x) × (y' ≡ y)
   pub gives : (n : ℕ) → o ≡ accepted n → GrowGiven x y x' y' k n
 
--- The functions, then the exports.
-pub record DemandedOfShapes : Type 2 where
+-- The functions, then the exports of L.
+pub record DemandedOfShapes (L : Library) : Type 2 where
   pub pack_shape_lem : Always pack_shape
       (λ κs s s' x x' y y' r. PackShape s.now x.now y.now x'.now y'.now (reply_of r))
   pub unpack_shape_lem : Always unpack_shape
@@ -62,13 +60,13 @@ pub record DemandedOfShapes : Type 2 where
       (λ κs x x' y y' k k' r. SubtreeEnd x.now y.now k.0 (node_end_of r))
   pub grow_caret_lem : Always grow_caret
       (λ κs x x' y y' k k' r. GrowCaret x.now y.now x'.now y'.now k.0 (reply_of r))
-  pub exported_pack_shape : Always thompson_pack_shape
+  pub exported_pack_shape : Always (export L.pack_shape)
       (λ κs s s' x x' y y' r. PackShape s.now x.now y.now x'.now y'.now (outcome_of r))
-  pub exported_unpack_shape : Always thompson_unpack_shape
+  pub exported_unpack_shape : Always (export L.unpack_shape)
       (λ κs x x' y y' s s' r. UnpackShape x.now y.now s.now s'.now (outcome_of r))
-  pub exported_carets_before : Always thompson_carets_before
+  pub exported_carets_before : Always (export L.carets_before)
       (λ κs x x' y y' k k' r. CaretsBefore x.now y.now k (outcome_of r))
-  pub exported_subtree_end : Always thompson_subtree_end
+  pub exported_subtree_end : Always (export L.subtree_end)
       (λ κs x x' y y' k k' r. SubtreeEnd x.now y.now k (outcome_of r))
-  pub exported_grow_caret : Always thompson_grow_caret
+  pub exported_grow_caret : Always (export L.grow_caret)
       (λ κs x x' y y' k k' r. GrowCaret x.now y.now x'.now y'.now k (outcome_of r))

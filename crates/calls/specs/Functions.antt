@@ -1,8 +1,13 @@
 -- The functions that the claims speak of, each by its contract, its code and its name, which Rattle made of its source.
 --     those of the papers and of the receipt program stand first, by their names
---     thompson_..    the exports: the calls of the library thompson for C and Rust; crate thompson_c exports each under
---                    its name, with the same contract
+--     thompson_..    the exports: the calls of the library thompson for C and Rust
+--     Export T       some function of the signature T, `export` as a function; `as_export` a function as an export
+--     Library        the exports of a library: for each of those of thompson one of its signature
+--     thompson       the library thompson itself; crate thompson_c, whose exports C links, has its own in proofs/
 -- Assumes nothing.
+use mir.Syntax.{Callee}
+use prog.Wired.{Code}
+use denote.Triple.Clauses.{Ended}
 use Rattle.calls.specs.Always.{Function}
 
 abbrev pub word_to_record : Function
@@ -298,4 +303,58 @@ thompson_grow_caret = record {
   ended = Rattle.thompson.specs.contracts.thompson_grow_caret.ended;
   code = Rattle.thompson.proofs.thompson_grow_caret.Symbol.code;
   name = Rattle.thompson.proofs.thompson_grow_caret.Symbol.name;
+}
+
+-- An export of the signature T: its code and its name.
+pub record Export (T : Ended) : Type 0 where
+  pub code : Code
+  pub name : Callee
+
+abbrev pub export : {T : Ended} → Export T → Function
+export {T} e = record { ended = T; code = e.code; name = e.name }
+
+abbrev pub as_export : (f : Function) → Export f.ended
+as_export f = record { code = f.code; name = f.name }
+
+-- The exports of a library.
+pub record Library : Type 0 where
+  pub word_to_record : Export thompson_word_to_record.ended
+  pub list_to_records : Export thompson_list_to_records.ended
+  pub check_record : Export thompson_check_record.ended
+  pub record_to_tree_pair : Export thompson_record_to_tree_pair.ended
+  pub record_to_length : Export thompson_record_to_length.ended
+  pub record_to_label_length : Export thompson_record_to_label_length.ended
+  pub record_to_word : Export thompson_record_to_word.ended
+  pub same_element : Export thompson_same_element.ended
+  pub text_to_record : Export thompson_text_to_record.ended
+  pub record_to_text : Export thompson_record_to_text.ended
+  pub enter_word : Export thompson_enter_word.ended
+  pub check_register : Export thompson_check_register.ended
+  pub live_entries : Export thompson_live_entries.ended
+  pub pack_shape : Export thompson_pack_shape.ended
+  pub unpack_shape : Export thompson_unpack_shape.ended
+  pub carets_before : Export thompson_carets_before.ended
+  pub subtree_end : Export thompson_subtree_end.ended
+  pub grow_caret : Export thompson_grow_caret.ended
+
+abbrev pub thompson : Library
+thompson = record {
+  word_to_record = as_export thompson_word_to_record;
+  list_to_records = as_export thompson_list_to_records;
+  check_record = as_export thompson_check_record;
+  record_to_tree_pair = as_export thompson_record_to_tree_pair;
+  record_to_length = as_export thompson_record_to_length;
+  record_to_label_length = as_export thompson_record_to_label_length;
+  record_to_word = as_export thompson_record_to_word;
+  same_element = as_export thompson_same_element;
+  text_to_record = as_export thompson_text_to_record;
+  record_to_text = as_export thompson_record_to_text;
+  enter_word = as_export thompson_enter_word;
+  check_register = as_export thompson_check_register;
+  live_entries = as_export thompson_live_entries;
+  pack_shape = as_export thompson_pack_shape;
+  unpack_shape = as_export thompson_unpack_shape;
+  carets_before = as_export thompson_carets_before;
+  subtree_end = as_export thompson_subtree_end;
+  grow_caret = as_export thompson_grow_caret;
 }
