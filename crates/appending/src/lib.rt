@@ -9,19 +9,14 @@ ghost use Rattle.appending.specs.Hexadecimal.{hex_of};
 ghost use Rattle.appending.specs.inside.Appending.{Appended};
 
 // The place behind a text that does not fit.
+// Kept a place, not an Option: the next append takes it as its place, so that a chain is tested once, at its end.
 pub const BEYOND: usize = usize::MAX;
 
 // All bytes of a list.
 pub fn append(bytes: &[u8], out: &mut [u8], at: usize) -> usize
     ensures { Appended bytes.now out.old at out.new result }
 {
-    if out.len() < at {
-        return BEYOND;
-    }
-    if out.len() - at < bytes.len() {
-        return BEYOND;
-    }
-    printing::put(bytes, out, at)
+    printing::place(bytes, out, at).unwrap_or(BEYOND)
 }
 
 // One byte.
@@ -35,9 +30,7 @@ pub fn append_byte(x: u8, out: &mut [u8], at: usize) -> usize
 pub fn append_decimal(n: u64, out: &mut [u8], at: usize) -> usize
     ensures { Appended (decimal n) out.old at out.new result }
 {
-    let mut digits = [0u8; 20];
-    let k = io::decimal(n, &mut digits);
-    append(&digits[..k], out, at)
+    printing::place_decimal(n, out, at).unwrap_or(BEYOND)
 }
 
 // A hexadecimal digit.
@@ -45,27 +38,21 @@ fn digit(d: u8) -> u8
     requires { d < 16 }
     ensures { result ≡ hex_digit_ascii d }
 {
-    if d < 10 { 48 + d } else { 87 + d }
+    if d < 10 { b'0' + d } else { b'a' + (d - 10) }
 }
 
 // Bytes in hexadecimal digits, two each.
 pub fn append_hex(bytes: &[u8], out: &mut [u8], at: usize) -> usize
     ensures { Appended (hex_of bytes.now) out.old at out.new result }
 {
-    if out.len() < at {
-        return BEYOND;
-    }
-    if (out.len() - at) / 2 < bytes.len() {
+    if out.len() < at || (out.len() - at) / 2 < bytes.len() {
         return BEYOND;
     }
     let mut end = at;
-    let mut i = 0;
-    while i < bytes.len() {
-        let x = bytes[i];
+    for &x in bytes {
         out[end] = digit(x / 16);
         out[end + 1] = digit(x % 16);
         end += 2;
-        i += 1;
     }
     end
 }

@@ -1,9 +1,7 @@
 -- Along a walk over the numbers from a node on: each step inside a number takes it further.
 --     Along xs from w    the walk from a node on has come to w         along_more    a step more
---     along_closed, along_ended    where the walk stops: nothing is to come, or the end is reached
 -- Assumes nothing.
 use mathlib.Core.Path.{◌≡◌, sym, ap, subst, ◌∙◌}
-use mathlib.Core.Logic.{inl, inr}
 use mathlib.Core.List.{List, ◌++◌}
 use Prim.Native.Nat.{ℕ, ◌+◌, ◌-◌, ◌/◌, ◌%◌, ◌^◌, ◌<◌, ◌≤◌}
 use native.Mathlib.Omega.{arith}
@@ -11,8 +9,8 @@ use lib.ListN.{take, drop, get_or}
 use lib.Seq.{take-add, drop-drop}
 use Rattle.bitrows.specs.declared.walk.Walk.{Walk}
 use Rattle.bitrows.specs.Numbers.{bits_of, nodes_in}
-use Rattle.bitrows.specs.inside.Walking.{Leaves, Reach, Pending, walk_end_value, Walked}
-use Rattle.bitrows.proofs.Leaving.{leaves_none, leaves-append, nodes_part}
+use Rattle.bitrows.specs.inside.Walking.{Leaves, Reach, walk_end_value}
+use Rattle.bitrows.proofs.Leaving.{leaves-append, nodes_part}
 
 -- The walk has come to w.
 pub record Along (xs : List ℕ) (from end : ℕ) (w : Walk) : Type 0 where
@@ -21,18 +19,6 @@ pub record Along (xs : List ℕ) (from end : ℕ) (w : Walk) : Type 0 where
   pub few : w.pending + from ≤ 1 + w.at
   pub within : from ≤ end → w.at ≤ end
   pub end_is : end ≡ walk_end_value xs
-
-pub along_start : (xs : List ℕ) (from end : ℕ) → end ≡ walk_end_value xs
-    → Along xs from end (record { at = from; pending = 1 })
-along_start xs from end e =
-    let z : 0 ≡ from - from = omega arith in
-    record {
-      on = omega arith;
-      leaves = subst (λ (n : ℕ). Leaves (take n (drop from (nodes_in xs))) 1 1) z (leaves_none 1);
-      few = omega arith;
-      within = λ h. h;
-      end_is = e;
-    }
 
 -- Nodes from one place to another, and on to a third.
 nodes_on : (s : List ℕ) (from at end : ℕ) → from ≤ at → at ≤ end
@@ -63,30 +49,3 @@ along_more {xs} {from} {end} {w} r a l h =
       within = λ _. omega (arith, a.end_is, h.within);
       end_is = a.end_is;
     }
-
--- A step can be made.
-pub along_pending : {xs : List ℕ} {from end : ℕ} {w : Walk} → Along xs from end w → 0 < w.pending → w.at < end
-    → Pending w
-along_pending a p l = record {
-  some = p;
-  few = omega (arith, a.few, a.end_is);
-  near = omega (arith, a.end_is);
-}
-
--- What is answered where nothing is to come.
-pub along_closed : {xs : List ℕ} {from end : ℕ} {w : Walk} → Along xs from end w → w.pending ≡ 0 → Walked xs from w
-along_closed {xs} {from} {end} {w} a z = record {
-  on = a.on;
-  leaves = a.leaves;
-  within = λ h. omega (arith, a.within (omega (arith, a.end_is)), a.end_is);
-  ended = inl z;
-}
-
--- What is answered at the end.
-pub along_ended : {xs : List ℕ} {from end : ℕ} {w : Walk} → Along xs from end w → end ≤ w.at → Walked xs from w
-along_ended {xs} {from} {end} {w} a l = record {
-  on = a.on;
-  leaves = a.leaves;
-  within = λ h. omega (arith, a.within (omega (arith, a.end_is)), a.end_is);
-  ended = inr (omega (arith, a.end_is));
-}

@@ -1,43 +1,42 @@
 -- The table of bytes (src/table.rt), by one computed test of its 256 entries.
---     byte_entries  the entries                 byte_table   they are the table that a walk reads
+--     byte_table   it is the table that a walk reads      byte_tally   the carets and the fall in an entry
 -- Assumes nothing.
-use mathlib.Core.Path.{refl}
-use mathlib.Core.List.{List, [], ◌∷◌}
-use Prim.Native.Nat.{ℕ, ◌+◌, ◌*◌}
-use lib.Dec.{eqb, eqb→eq}
+use mathlib.Core.Path.{◌≡◌, refl, ap, ◌∙◌}
+use mathlib.Core.List.{List}
+use Prim.Native.Nat.{ℕ, ◌+◌, ◌*◌, ◌/◌, ◌%◌, ◌≤◌}
+use native.Mathlib.Nat.{mod-lt}
+use native.Mathlib.Omega.{arith}
+use lib.Dec.{eqb, eqb→eq, lit<}
 use lib.ListN.{get_or}
 use Rattle.lists.specs.Entries.{total}
 use Rattle.lists.proofs.Tests.{all_at}
+use Rattle.bitrows.specs.declared.table.TheConstants.{BYTES}
 use Rattle.bitrows.specs.Numbers.{bits_of}
 use Rattle.bitrows.specs.inside.Walking.{fall, ByteTable}
-
--- For each byte, 16 times its carets and the most that its first nodes close more than they open.
-abbrev pub byte_entries : List ℕ
-byte_entries =
-    8 ∷ 22 ∷ 22 ∷ 36 ∷ 22 ∷ 36 ∷ 36 ∷ 50 ∷ 22 ∷ 36 ∷ 36 ∷ 50 ∷ 36 ∷ 50 ∷ 50 ∷ 64
-    ∷ 22 ∷ 36 ∷ 36 ∷ 50 ∷ 36 ∷ 50 ∷ 50 ∷ 64 ∷ 36 ∷ 50 ∷ 50 ∷ 64 ∷ 50 ∷ 64 ∷ 65 ∷ 80
-    ∷ 22 ∷ 36 ∷ 36 ∷ 50 ∷ 36 ∷ 50 ∷ 50 ∷ 64 ∷ 36 ∷ 50 ∷ 50 ∷ 64 ∷ 50 ∷ 64 ∷ 65 ∷ 80
-    ∷ 36 ∷ 50 ∷ 50 ∷ 64 ∷ 50 ∷ 64 ∷ 65 ∷ 80 ∷ 51 ∷ 65 ∷ 65 ∷ 80 ∷ 66 ∷ 80 ∷ 81 ∷ 96
-    ∷ 22 ∷ 36 ∷ 36 ∷ 50 ∷ 36 ∷ 50 ∷ 50 ∷ 64 ∷ 36 ∷ 50 ∷ 50 ∷ 64 ∷ 50 ∷ 64 ∷ 65 ∷ 80
-    ∷ 36 ∷ 50 ∷ 50 ∷ 64 ∷ 50 ∷ 64 ∷ 65 ∷ 80 ∷ 51 ∷ 65 ∷ 65 ∷ 80 ∷ 66 ∷ 80 ∷ 81 ∷ 96
-    ∷ 37 ∷ 51 ∷ 51 ∷ 65 ∷ 51 ∷ 65 ∷ 65 ∷ 80 ∷ 51 ∷ 65 ∷ 65 ∷ 80 ∷ 66 ∷ 80 ∷ 81 ∷ 96
-    ∷ 52 ∷ 66 ∷ 66 ∷ 80 ∷ 66 ∷ 80 ∷ 81 ∷ 96 ∷ 67 ∷ 81 ∷ 81 ∷ 96 ∷ 82 ∷ 96 ∷ 97 ∷ 112
-    ∷ 23 ∷ 37 ∷ 37 ∷ 51 ∷ 37 ∷ 51 ∷ 51 ∷ 65 ∷ 37 ∷ 51 ∷ 51 ∷ 65 ∷ 51 ∷ 65 ∷ 65 ∷ 80
-    ∷ 37 ∷ 51 ∷ 51 ∷ 65 ∷ 51 ∷ 65 ∷ 65 ∷ 80 ∷ 51 ∷ 65 ∷ 65 ∷ 80 ∷ 66 ∷ 80 ∷ 81 ∷ 96
-    ∷ 37 ∷ 51 ∷ 51 ∷ 65 ∷ 51 ∷ 65 ∷ 65 ∷ 80 ∷ 51 ∷ 65 ∷ 65 ∷ 80 ∷ 66 ∷ 80 ∷ 81 ∷ 96
-    ∷ 52 ∷ 66 ∷ 66 ∷ 80 ∷ 66 ∷ 80 ∷ 81 ∷ 96 ∷ 67 ∷ 81 ∷ 81 ∷ 96 ∷ 82 ∷ 96 ∷ 97 ∷ 112
-    ∷ 38 ∷ 52 ∷ 52 ∷ 66 ∷ 52 ∷ 66 ∷ 66 ∷ 80 ∷ 52 ∷ 66 ∷ 66 ∷ 80 ∷ 66 ∷ 80 ∷ 81 ∷ 96
-    ∷ 52 ∷ 66 ∷ 66 ∷ 80 ∷ 66 ∷ 80 ∷ 81 ∷ 96 ∷ 67 ∷ 81 ∷ 81 ∷ 96 ∷ 82 ∷ 96 ∷ 97 ∷ 112
-    ∷ 53 ∷ 67 ∷ 67 ∷ 81 ∷ 67 ∷ 81 ∷ 81 ∷ 96 ∷ 67 ∷ 81 ∷ 81 ∷ 96 ∷ 82 ∷ 96 ∷ 97 ∷ 112
-    ∷ 68 ∷ 82 ∷ 82 ∷ 96 ∷ 82 ∷ 96 ∷ 97 ∷ 112 ∷ 83 ∷ 97 ∷ 97 ∷ 112 ∷ 98 ∷ 112 ∷ 113 ∷ 128 ∷ []
+use Rattle.bitrows.proofs.Bits.{bits_length}
+use Rattle.bitrows.proofs.Walks.{fall-length}
+use Rattle.bitrows.proofs.Leaving.{bits_cut_byte}
 
 -- What the entry of a byte is to be.
 abbrev byte_entry : ℕ → ℕ
 byte_entry b = 16 * total (bits_of 8 b) + fall (bits_of 8 b)
 
-pub byte_table : ByteTable byte_entries
+pub byte_table : ByteTable BYTES
 byte_table = record {
   size = refl;
-  at = λ b h. eqb→eq (get_or byte_entries b 0) (byte_entry b)
-      (all_at 256 (λ (c : ℕ). eqb (get_or byte_entries c 0) (byte_entry c)) tt b h);
+  at = λ b h. eqb→eq (get_or BYTES b 0) (byte_entry b)
+      (all_at 256 (λ (c : ℕ). eqb (get_or BYTES c 0) (byte_entry c)) tt b h);
 }
+
+-- What the entry of the lowest byte of a number says.
+pub byte_tally : {t : List ℕ} → ByteTable t → (x : ℕ)
+    → (get_or t (x % 256) 0 / 16 ≡ total (bits_of 8 x)) × (get_or t (x % 256) 0 % 16 ≡ fall (bits_of 8 x))
+byte_tally {t} b x = (omega (arith, entry, low), omega (arith, entry, low))
+  where
+    entry : get_or t (x % 256) 0 ≡ 16 * total (bits_of 8 x) + fall (bits_of 8 x)
+    entry =
+        b.at (x % 256) (mod-lt x (lit< tt))
+        ∙ ap (λ (u : List ℕ). 16 * total u + fall u) (bits_cut_byte x)
+
+    low : fall (bits_of 8 x) ≤ 8
+    low = omega (arith, fall-length (bits_of 8 x), bits_length 8 x)

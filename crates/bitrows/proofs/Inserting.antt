@@ -133,10 +133,6 @@ opened_fits x p h l =
     ∙ ap (λ (n : ℕ). opened_number n p) (first_bits x h))
     (pack_fits (inserted (bits_of 64 x) p) (inserted-nodes (bits_of 64 x) p (bits_nodes 64 x)))
 
--- The parts of an opened number: what is below bit p, what is from there on, and where that has moved to.
-pub below-fits : (x p : ℕ) → x % 2 ^ p ≤ x
-below-fits x p = omega (arith, split x p)
-
 pub above_exact : (x p : ℕ) → x - x % 2 ^ p ≡ x / 2 ^ p * 2 ^ p
 above_exact x p = omega (arith, split x p)
 

@@ -1,34 +1,26 @@
 -- Amid a number that a walk passes: what is behind, and what the next nodes, bytes or the whole number leave to come.
 --     Amid x at₀ p₀ end at p rest   from node at₀ with p₀ subtrees to come, node at is reached with p to come
 --     amid_more                     some nodes more                 amid_reach    what the function answers
---     number_leaves, byte_leaves, node_leaves    what a whole number, a byte and a node leave
+--     bits_leave, number_leaves, node_leaves    what bits, a whole number and a node leave
 -- Assumes nothing.
-use mathlib.Core.Path.{◌≡◌, refl, sym, ap, ap₂, subst, ◌∙◌}
+use mathlib.Core.Path.{◌≡◌, sym, ap, ap₂, subst, ◌∙◌}
 use mathlib.Core.List.{List, [], ◌∷◌}
 use Prim.Native.Nat.{ℕ, zero, suc, ◌+◌, ◌-◌, ◌*◌, ◌/◌, ◌%◌, ◌^◌, ◌<◌, ◌≤◌}
 use native.Mathlib.Nat.{mod-lt}
 use native.Mathlib.Omega.{arith}
 use lib.Count.{ones}
 use lib.Dec.{lit<}
-use lib.ListN.{length, get_or}
+use lib.ListN.{length}
 use lib.Pow.{shr-shr}
 use Rattle.lists.specs.Entries.{total}
 use Rattle.bitrows.specs.declared.walk.Walk.{Walk}
 use Rattle.bitrows.specs.Numbers.{bits_of}
 use Rattle.bitrows.specs.inside.Nodes.{Nodes}
-use Rattle.bitrows.specs.inside.Walking.{fall, ByteTable, Leaves, Reach}
+use Rattle.bitrows.specs.inside.Walking.{fall, Leaves, Reach}
 use Rattle.bitrows.proofs.Bits.{bits_length, bits_nodes}
 use Rattle.bitrows.proofs.NodeLists.{nodes-total}
 use Rattle.bitrows.proofs.Walks.{fall-length}
-use Rattle.bitrows.proofs.Leaving.{
-  leaves_none,
-  leaves-append,
-  leaves_past,
-  leaves_node,
-  bits_append,
-  bits_cut_byte,
-  bits_total,
-}
+use Rattle.bitrows.proofs.Leaving.{leaves-append, leaves_past, leaves_node, bits_append, bits_total}
 
 -- Amid the passing of a number x.
 pub record Amid (x at₀ p₀ end at p rest : ℕ) : Type 0 where
@@ -41,20 +33,6 @@ pub record Amid (x at₀ p₀ end at p rest : ℕ) : Type 0 where
   pub inside : end ≤ at₀ / 64 * 64 + 64
   pub few₀ : p₀ ≤ 4294967295
   pub near₀ : at₀ ≤ 4294967295
-
-pub amid_start : {x at p end rest : ℕ} → p ≤ 4294967295 → at ≤ 4294967295 → rest ≡ x / 2 ^ (at % 64) → at ≤ end
-    → end ≤ at / 64 * 64 + 64 → Amid x at p end at p rest
-amid_start {x} {at} {p} f n e l i = record {
-  gone = 0;
-  reached = omega arith;
-  left = e ∙ omega arith;
-  leaves = leaves_none p;
-  few = omega arith;
-  within = l;
-  inside = i;
-  few₀ = f;
-  near₀ = n;
-}
 
 pub amid_more : {x at₀ p₀ end at p rest : ℕ} (k q : ℕ) → Amid x at₀ p₀ end at p rest → Leaves (bits_of k rest) p q
     → q ≤ p + k → at + k ≤ end → Amid x at₀ p₀ end (at + k) q (rest / 2 ^ k)
@@ -100,7 +78,7 @@ pub record Leaving (s : List ℕ) (k p q : ℕ) : Type 0 where
   pub leaves : Leaves s p q
   pub few : q ≤ p + k
 
-bits_leave : (k x p n : ℕ) → fall (bits_of k x) < p → n ≡ total (bits_of k x)
+pub bits_leave : (k x p n : ℕ) → fall (bits_of k x) < p → n ≡ total (bits_of k x)
     → (k ≤ p + 2 * n) × Leaving (bits_of k x) k p (p + 2 * n - k)
 bits_leave k x p n h e =
     let s = bits_of k x in
@@ -120,43 +98,6 @@ number_leaves x p h l =
   where
     few : (k y : ℕ) → k < p → fall (bits_of k y) < p
     few k y g = omega (arith, fall-length (bits_of k y), bits_length k y)
-
--- A byte, by its entry in the table.
-pub byte_leaves : {t : List ℕ} → ByteTable t → (x p e : ℕ) → e ≡ get_or t (x % 256) 0 → e % 16 < p
-    → (8 ≤ p + e / 16 * 2) × Leaving (bits_of 8 x) 8 p (p + e / 16 * 2 - 8)
-byte_leaves {t} b x p e d l = go (e / 16) refl
-  where
-    s : List ℕ
-    s = bits_of 8 x
-
-    entry : e ≡ 16 * total s + fall s
-    entry =
-        d ∙ b.at (x % 256) (mod-lt x (lit< tt))
-        ∙ ap (λ (u : List ℕ). 16 * total u + fall u) (bits_cut_byte x)
-
-    low : fall s ≤ 8
-    low = omega (arith, fall-length s, bits_length 8 x)
-
-    go : (n : ℕ) → e / 16 ≡ n → (8 ≤ p + n * 2) × Leaving s 8 p (p + n * 2 - 8)
-    go n g =
-        let m : n ≡ total s = omega (arith, entry, low) in
-        let f : fall s < p = omega (arith, entry, low) in
-        let two : 2 * n ≡ n * 2 = omega arith in
-        subst (λ (k : ℕ). (8 ≤ p + k) × Leaving s 8 p (p + k - 8)) two (bits_leave 8 x p n f m)
-
--- An entry of the table is small.
-pub byte_fits : {t : List ℕ} → ByteTable t → (x : ℕ) → get_or t (x % 256) 0 ≤ 136
-byte_fits {t} b x = go (x % 256) (mod-lt x (lit< tt))
-  where
-    go : (n : ℕ) → n < 256 → get_or t n 0 ≤ 136
-    go n h =
-        omega (
-          arith,
-          b.at n h,
-          fall-length (bits_of 8 n),
-          nodes-total (bits_of 8 n) (bits_nodes 8 n),
-          bits_length 8 n,
-        )
 
 -- One node.
 pub node_leaves : (x p : ℕ) → 0 < p

@@ -1,7 +1,7 @@
 // Nodes of shapes in rows of numbers, 64 to a number, the first node in the lowest bit.
 #![tactic(auto)]
 
-ghost use Rattle.std.specs.Prelude.{◌≡◌, ◌%◌, ◌≤◌, ◌<◌, ◌^◌};
+ghost use Rattle.std.specs.Prelude.{◌≡◌, ◌%◌, ◌≤◌, ◌<◌, ◌^◌, unwrap_or};
 ghost use Rattle.std.specs.Int.Count.{ones};
 ghost use Rattle.bitrows.specs.inside.Growth.{opened_number, carried_number, FoundLeaf};
 
@@ -15,10 +15,10 @@ pub mod walk;
 pub const NODES: usize = 64;
 
 // The bit of a node in its number.
-fn bit_of(node: NodeNumber) -> u64
+fn bit_of(node: NodeNumber) -> usize
     ensures { result ≡ node.0 % 64 }
 {
-    (node.0 % NODES) as u64
+    node.0 % NODES
 }
 
 // The bits below that of a node.
@@ -34,29 +34,14 @@ pub fn carets_below(x: u64, node: NodeNumber) -> u32
     ensures upper_bound { result ≤ 64 }
 {
     let k = bit_of(node);
-    u64::count_ones(x & ((1u64 << k) - 1))
+    (x & ((1u64 << k) - 1)).count_ones()
 }
 
-// The node of leaf k of the nodes in the number x; the number of nodes where it has no such leaf.
-pub fn leaf_at(x: u64, k: usize) -> usize
-    ensures { FoundLeaf x k result }
+// The node of leaf k of the nodes in the number x, where it has such a leaf.
+pub fn leaf_at(x: u64, k: usize) -> Option<usize>
+    ensures { FoundLeaf x k (unwrap_or result 64) }
 {
-    if NODES <= k {
-        return NODES;
-    }
-    let mut rest = x;
-    let mut left = k;
-    let mut node = 0;
-    while node < NODES {
-        let caret = (rest % 2) as usize;
-        if left + caret == 0 {
-            return node;
-        }
-        left = left + caret - 1;
-        rest = rest / 2;
-        node += 1;
-    }
-    NODES
+    (0..NODES).filter(|&node| (x >> node) % 2 == 0).nth(k)
 }
 
 // The number x with a caret and a leaf in front of a node: those behind it go two bits up.

@@ -4,6 +4,8 @@ use mathlib.Core.Path.{◌≡◌, refl, sym, ◌∙◌, subst}
 use mathlib.Core.List.{List}
 use Prim.Native.Nat.{ℕ, ◌≤◌}
 use lib.ListN.{length, take}
+use Rattle.std.specs.Prelude.{⊤, Result}
+use Rattle.refusals.specs.declared.Refusal.{Refusal}
 use Rattle.group.specs.Letters.{Word}
 use Rattle.group.specs.Bytes.{bytes_of}
 use Rattle.group.specs.Limits.{limit}
@@ -12,8 +14,6 @@ use Rattle.group.specs.Powers.{SignedPower, product_letters, form_powers}
 use Rattle.group.proofs.Reduced.{form_reduced, form_trimmed}
 use Rattle.group.proofs.Theorems.{form_map, the_form}
 use Rattle.refusals.specs.Outcomes.{Outcome, accepted, verdict_of, reply_of}
-use Rattle.refusals.specs.declared.Verdict.{Verdict}
-use Rattle.refusals.specs.declared.Reply.{Reply}
 use Rattle.refusals.specs.Memory.{Memory, memory}
 use Rattle.records.specs.Format.{Within}
 use Rattle.records.specs.Checking.{Checked}
@@ -23,6 +23,7 @@ use Rattle.notation.specs.Promises.{TextRecorded, TextWritten}
 use Rattle.words.specs.Recording.{encode_word, Recorded}
 use Rattle.comparisons.specs.Comparing.{Decision, decision_of, Compared}
 use Rattle.comparisons.specs.declared.Comparison.{Comparison}
+use Rattle.comparisons.specs.declared.RefusedWord.{RefusedWord}
 use Rattle.lengths.specs.Weights.{form_length}
 use Rattle.pairs.specs.Promises.{Paired, label_sum, Measured}
 use Rattle.spelling.specs.Promises.{Spelled}
@@ -47,7 +48,8 @@ use Rattle.calls.proofs.Always.{always_below}
 use Rattle.calls.proofs.Calls.{calls}
 
 -- Demands 1 and 2 of a call that ends with its contract.
-word_to_record_lem : {u : List ℕ} {m m' : Memory} {r : Reply} → Recorded u m m' r → WordToRecord u m m' (reply_of r)
+word_to_record_lem : {u : List ℕ} {m m' : Memory} {r : Result ℕ Refusal} → Recorded u m m' r
+    → WordToRecord u m m' (reply_of r)
 word_to_record_lem {u} {m} {m'} {r} h =
     let first = demand1.word_to_record_lem u m m' r h in
     record {
@@ -56,11 +58,11 @@ word_to_record_lem {u} {m} {m'} {r} h =
       gives = λ n e. let w = demand2.is_word u m m' r n h e in (w.0, w.1, call_keeps_map h e w.1);
     }
 
-check_record_lem : {s : List ℕ} {r : Verdict} → Checked s r → CheckRecord s (verdict_of r)
+check_record_lem : {s : List ℕ} {r : Result ⊤ Refusal} → Checked s r → CheckRecord s (verdict_of r)
 check_record_lem {s} {r} h =
     record { refuses = demand1.check_record_lem s r h; accepts = demand1.accepted_record s r h }
 
-record_to_tree_pair_lem : {s p q p' q' : List ℕ} {r : Reply} → Paired s p q p' q' r
+record_to_tree_pair_lem : {s p q p' q' : List ℕ} {r : Result ℕ Refusal} → Paired s p q p' q' r
     → RecordToTreePair s p q p' q' (reply_of r)
 record_to_tree_pair_lem {s} {p} {q} {p'} {q'} {r} h =
     let first = demand1.record_to_tree_pair_lem s p q p' q' r h in
@@ -79,24 +81,26 @@ record_to_tree_pair_lem {s} {p} {q} {p'} {q'} {r} h =
       });
     }
 
-record_to_length_lem : {s : List ℕ} {r : Reply} → Measured form_length s r → RecordToLength s (reply_of r)
+record_to_length_lem : {s : List ℕ} {r : Result ℕ Refusal} → Measured form_length s r → RecordToLength s (reply_of r)
 record_to_length_lem {s} {r} h = record {
   refuses = demand1.record_to_length_lem s r h;
   gives = λ n e. demand2.gives_length s (record { answer = r; count = n; contract = h; taken = e });
 }
 
-record_to_label_length_lem : {s : List ℕ} {r : Reply} → Measured label_sum s r → RecordToLength s (reply_of r)
+record_to_label_length_lem : {s : List ℕ} {r : Result ℕ Refusal} → Measured label_sum s r
+    → RecordToLength s (reply_of r)
 record_to_label_length_lem {s} {r} h = record {
   refuses = demand1.record_to_label_length_lem s r h;
   gives = λ n e. demand2.gives_label_length s (record { answer = r; count = n; contract = h; taken = e });
 }
 
-record_to_word_lem : {s t t' : List ℕ} {r : Reply} → Spelled s t t' r → RecordToWord s t t' (reply_of r)
+record_to_word_lem : {s t t' : List ℕ} {r : Result ℕ Refusal} → Spelled s t t' r → RecordToWord s t t' (reply_of r)
 record_to_word_lem {s} {t} {t'} {r} h =
     let first = demand1.record_to_word_lem s t t' r h in
     record { refuses = first.0; unaltered = first.1; gives = demand2.gives_word s t t' r h }
 
-text_to_record_lem : {t : List ℕ} {m m' : Memory} {r : Reply} → TextRecorded t m m' r → TextToRecord t m m' (reply_of r)
+text_to_record_lem : {t : List ℕ} {m m' : Memory} {r : Result ℕ Refusal} → TextRecorded t m m' r
+    → TextToRecord t m m' (reply_of r)
 text_to_record_lem {t} {m} {m'} {r} h =
     let first = demand1.text_to_record_lem t m m' r h in
     record {
@@ -106,13 +110,14 @@ text_to_record_lem {t} {m} {m'} {r} h =
           let ps = demand2.is_text t m m' r n h e in (ps.0, ps.1, ps.2, text_keeps_map ps.0 h e ps.2);
     }
 
-record_to_text_lem : {s t t' : List ℕ} {r : Reply} → TextWritten s t t' r → RecordToText s t t' (reply_of r)
+record_to_text_lem : {s t t' : List ℕ} {r : Result ℕ Refusal} → TextWritten s t t' r → RecordToText s t t' (reply_of r)
 record_to_text_lem {s} {t} {t'} {r} h =
     let first = demand1.record_to_text_lem s t t' r h in
     record { refuses = first.0; unaltered = first.1; gives = λ n e. phrase_gives h e }
 
 -- Where the two-word call answers, each memory is left as by the word's own call, which accepts.
-verdict : {u v : List ℕ} {m m' k k' : Memory} {r : Comparison} → Compared u m m' v k k' r → Answered (decision_of r)
+verdict : {u v : List ℕ} {m m' k k' : Memory} {r : Result Comparison RefusedWord} → Compared u m m' v k k' r
+    → Answered (decision_of r)
     → VerdictOfWords u m m' v k k' (decision_of r)
 verdict {u} {v} {m} {m'} {k} {k'} {r} h a =
     let none = (demand1.same_element_lem u v m m' k k' r h).0.answered_just_when.0 a in
@@ -133,7 +138,7 @@ verdict {u} {v} {m} {m'} {k} {k'} {r} h a =
           (judged_accepted v k x.0 ((no_refusal↔none v k).1 none.1) x.1);
     }
 
-same_element_lem : {u v : List ℕ} {m m' k k' : Memory} {r : Comparison} → Compared u m m' v k k' r
+same_element_lem : {u v : List ℕ} {m m' k k' : Memory} {r : Result Comparison RefusedWord} → Compared u m m' v k k' r
     → TwoWords u m m' v k k' (decision_of r)
 same_element_lem {u} {v} {m} {m'} {k} {k'} {r} h =
     let first = demand1.same_element_lem u v m m' k k' r h in
@@ -195,14 +200,14 @@ demanded_of_exports exports = record {
 }
 
 -- The record of a word is what an accepted call on it writes.
-writes_record : {u : List ℕ} {m m' : Memory} {r : Reply} (w : Word) (n : ℕ) → Recorded u m m' r
+writes_record : {u : List ℕ} {m m' : Memory} {r : Result ℕ Refusal} (w : Word) (n : ℕ) → Recorded u m m' r
     → u ≡ bytes_of w → reply_of r ≡ accepted n → (length w ≤ limit) × (take n m'.buffer ≡ encode_word w)
 writes_record {u} {m} w n h b e =
     let call = call_front {w = w} h e b in
     (judged_within u m w call.judged_so, call.front)
 
 -- The word that is written for a record has that record.
-spells_record : {s t t' : List ℕ} {r : Reply} (n : ℕ) → Spelled s t t' r → reply_of r ≡ accepted n
+spells_record : {s t t' : List ℕ} {r : Result ℕ Refusal} (n : ℕ) → Spelled s t t' r → reply_of r ≡ accepted n
     → (x : Word) × (take n t' ≡ bytes_of x) × (length x ≤ limit) × (encode_word x ≡ s)
 spells_record n h e =
     let f = spelled_as h e in
@@ -223,14 +228,15 @@ within_fits w h = record {
 }
 
 -- The record of a text is what an accepted call on it writes.
-writes_text : {t : List ℕ} {m m' : Memory} {r : Reply} (ps : List SignedPower) (n : ℕ) → TextRecorded t m m' r
+writes_text : {t : List ℕ} {m m' : Memory} {r : Result ℕ Refusal} (ps : List SignedPower) (n : ℕ)
+    → TextRecorded t m m' r
     → t ≡ text_of ps → reply_of r ≡ accepted n
     → Fits (product_letters ps) × (take n m'.buffer ≡ encode_word (product_letters ps))
 writes_text ps n h b e =
     let call = text_listed ps h e b in (within_fits (product_letters ps) call.within, call.is)
 
 -- The text that is written for a record has that record.
-phrases_record : {s t t' : List ℕ} {r : Reply} (n : ℕ) → TextWritten s t t' r → reply_of r ≡ accepted n
+phrases_record : {s t t' : List ℕ} {r : Result ℕ Refusal} (n : ℕ) → TextWritten s t t' r → reply_of r ≡ accepted n
     → (ps : List SignedPower) × (take n t' ≡ text_of ps) × Fits (product_letters ps)
     × (encode_word (product_letters ps) ≡ s)
 phrases_record {s} n h e =

@@ -3,8 +3,9 @@
 use mathlib.Core.Path.{sym, subst}
 use mathlib.Core.List.{List}
 use Prim.Native.Nat.{ℕ}
+use Rattle.std.specs.Prelude.{Result}
+use Rattle.refusals.specs.declared.Refusal.{Refusal}
 use Rattle.refusals.specs.Outcomes.{Outcome, reply_of}
-use Rattle.refusals.specs.declared.Reply.{Reply}
 use Rattle.refusals.specs.Memory.{Memory, memory}
 use Rattle.wordlists.specs.Listing.{Listed}
 use Rattle.claims.proofs.Demands.{demand1}
@@ -16,7 +17,7 @@ use Rattle.calls.specs.DemandedOfLists.{ListToRecords, DemandedOfLists}
 use Rattle.calls.proofs.Always.{always_below}
 use Rattle.calls.proofs.Calls.{calls}
 
-list_to_records_lem : {list : List ℕ} {m m' : Memory} {r : Reply} → Listed list m m' r
+list_to_records_lem : {list : List ℕ} {m m' : Memory} {r : Result ℕ Refusal} → Listed list m m' r
     → ListToRecords list m m' (reply_of r)
 list_to_records_lem {list} {m} {m'} {r} h =
     let first = demand1.list_to_records_lem list m m' r h in

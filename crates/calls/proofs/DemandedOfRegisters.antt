@@ -5,8 +5,9 @@ use mathlib.Core.List.{List}
 use mathlib.Core.Logic.{◌↔◌}
 use Prim.Native.Nat.{ℕ}
 use native.Mathlib.Omega.{arith}
+use Rattle.std.specs.Prelude.{⊤, Result, Ok, Err}
+use Rattle.refusals.specs.declared.Refusal.{Refusal}
 use Rattle.refusals.specs.Outcomes.{Outcome, accepted, refused, valued, then, verdict_of}
-use Rattle.refusals.specs.declared.Verdict.{Verdict}
 use Rattle.refusals.specs.Memory.{Memory, memory}
 use Rattle.refusals.proofs.Outcomes.{accepted_refused, accepted_when}
 use Rattle.registers.proofs.WellFormed.{reads_well_formed}
@@ -17,9 +18,8 @@ use Rattle.updates.specs.Accounts.{AccountRead, account_in}
 use Rattle.updates.specs.Entering.{Reply, new_entry, Answer, EnteredWord}
 use Rattle.updates.specs.Entering.{entered_of, replied_of, number_of_entered, reply_number}
 use Rattle.updates.specs.declared.Account.{Account}
-use Rattle.updates.specs.declared.AccountOf.{AccountOf}
 use Rattle.updates.specs.declared.Entered.{Entered}
-use Rattle.updates.specs.declared.Entered.TheVariants.{New, Present, Refused}
+use Rattle.updates.specs.declared.Entered.TheVariants.{New, Present}
 use Rattle.thompson.specs.Codes.{live_of}
 use Rattle.claims.specs.Answers.{Refuses, IsRefused}
 use Rattle.claims.specs.Registers.{EnterRefusal, RegisterRefusal, EnteredAs}
@@ -34,20 +34,20 @@ use Rattle.calls.specs.DemandedOfRegisters.{CheckRegister, EnterWord, LiveEntrie
 use Rattle.calls.proofs.Always.{always_below}
 use Rattle.calls.proofs.Calls.{calls}
 
-check_register_lem : {s : List ℕ} {r : Verdict} → RegisterChecked s r → CheckRegister s (verdict_of r)
+check_register_lem : {s : List ℕ} {r : Result ⊤ Refusal} → RegisterChecked s r → CheckRegister s (verdict_of r)
 check_register_lem {s} {r} h = record {
   refuses = demand1.check_register_lem s r h;
   accepts = registers_are_read.accepted_just_when s r h;
 }
 
 -- The number of a filing's answer, by the reply and by the answer.
-number_replied : (r : Entered) → number_of_entered r ≡ valued reply_number (replied_of r)
-number_replied (New k a) = refl
-number_replied (Present k a) = refl
-number_replied (Refused q) = refl
+number_replied : (r : Result Entered Refusal) → number_of_entered r ≡ valued reply_number (replied_of r)
+number_replied (Ok (New k a)) = refl
+number_replied (Ok (Present k a)) = refl
+number_replied (Err q) = refl
 
 -- The answer of a reply.
-answer_of : (r : Entered) (y : Reply) → replied_of r ≡ accepted y
+answer_of : (r : Result Entered Refusal) (y : Reply) → replied_of r ≡ accepted y
     → (x : Answer) × (entered_of r ≡ accepted x) × (x.reply ≡ y)
 answer_of r y e = go (entered_of r) refl e
   where
@@ -56,7 +56,8 @@ answer_of r y e = go (entered_of r) refl e
     go (accepted x) p q = (x, p, (cc))
     go (refused n k) p q = absurd (let w : ◌≡◌ {A = ℕ} 0 1 = cc in omega arith)
 
-enter_word_lem : {u : List ℕ} {m m' : Memory} {h : ℕ} {s s' : List ℕ} {r : Entered} → EnteredWord u m m' h s s' r
+enter_word_lem : {u : List ℕ} {m m' : Memory} {h : ℕ} {s s' : List ℕ} {r : Result Entered Refusal}
+    → EnteredWord u m m' h s s' r
     → EnterWord u m m' h s s' (replied_of r)
 enter_word_lem {u} {m} {m'} {h} {s} {s'} {r} c =
     let first = demand1.enter_word_lem u m m' h s s' r c in
@@ -89,7 +90,7 @@ live_read : (h : ℕ) (o : Outcome Register) (n : ℕ) → count_in h o ≡ acce
 live_read h (accepted q) n e = (q, refl, (cc))
 live_read h (refused a b) n e = absurd (accepted_refused (sym e))
 
-live_entries_lem : {s : List ℕ} {h : ℕ} {r : AccountOf} → AccountRead s h r → LiveEntries s h (live_of r)
+live_entries_lem : {s : List ℕ} {h : ℕ} {r : Result Account Refusal} → AccountRead s h r → LiveEntries s h (live_of r)
 live_entries_lem {s} {h} {r} c =
     record {
       refuses = record {

@@ -3,14 +3,15 @@
 use mathlib.Core.Path.{sym, subst}
 use mathlib.Core.List.{List}
 use Prim.Native.Nat.{ℕ}
+use Rattle.std.specs.Prelude.{Result}
+use Rattle.refusals.specs.declared.Refusal.{Refusal}
+use Rattle.refusals.specs.declared.NodeNumber.{NodeNumber}
 use Rattle.refusals.specs.Outcomes.{Outcome, reply_of}
 use Rattle.refusals.specs.Placing.{Placed}
-use Rattle.refusals.specs.declared.Reply.{Reply}
 use Rattle.trees.specs.Shapes.{subtree_end_value}
 use Rattle.packed.specs.Packing.{carets_before_value}
 use Rattle.packed.specs.Answers.{node_end_of}
 use Rattle.packed.specs.Promises.{packing, unpacking, growing, Repacked, AnswersNode}
-use Rattle.packed.specs.declared.NodeEnd.{NodeEnd}
 use Rattle.claims.proofs.Demands.{demand1}
 use Rattle.claims.proofs.Exports.{exports_answer_as_calls}
 use Rattle.claims.proofs.PackedGiven.{shapes_given}
@@ -28,7 +29,7 @@ use Rattle.calls.proofs.Always.{always_below}
 use Rattle.calls.proofs.Calls.{calls}
 
 -- The demands on a call that ends with its contract.
-pack_shape_lem : {s x y x' y' : List ℕ} {r : Reply} → Repacked (packing s x y) x y x' y' r
+pack_shape_lem : {s x y x' y' : List ℕ} {r : Result ℕ Refusal} → Repacked (packing s x y) x y x' y' r
     → PackShape s x y x' y' (reply_of r)
 pack_shape_lem {s} {x} {y} {x'} {y'} {r} h =
     let first = demand1.pack_shape_lem s x y x' y' r h in
@@ -38,7 +39,8 @@ pack_shape_lem {s} {x} {y} {x'} {y'} {r} h =
       gives = λ n. shapes_given.pack_shape_lem s x y x' y' r n h;
     }
 
-unpack_shape_lem : {x y s s' : List ℕ} {r : Reply} → Placed (unpacking x y s) s s' r → UnpackShape x y s s' (reply_of r)
+unpack_shape_lem : {x y s s' : List ℕ} {r : Result ℕ Refusal} → Placed (unpacking x y s) s s' r
+    → UnpackShape x y s s' (reply_of r)
 unpack_shape_lem {x} {y} {s} {s'} {r} h =
     let first = demand1.unpack_shape_lem x y s s' r h in
     record {
@@ -47,21 +49,23 @@ unpack_shape_lem {x} {y} {s} {s'} {r} h =
       gives = λ n. shapes_given.unpack_shape_lem x y s s' r n h;
     }
 
-carets_before_lem : {x y : List ℕ} {k : ℕ} (r : Reply) → AnswersNode (λ s. carets_before_value s k) x y k (reply_of r)
+carets_before_lem : {x y : List ℕ} {k : ℕ} (r : Result ℕ Refusal)
+    → AnswersNode (λ s. carets_before_value s k) x y k (reply_of r)
     → CaretsBefore x y k (reply_of r)
 carets_before_lem {x} {y} {k} r h = record {
   refuses = demand1.carets_before_lem x y k r h;
   gives = λ n. shapes_given.carets_before_lem x y k r n h;
 }
 
-subtree_end_lem : {x y : List ℕ} {k : ℕ} (r : NodeEnd) → AnswersNode (λ s. subtree_end_value s k) x y k (node_end_of r)
+subtree_end_lem : {x y : List ℕ} {k : ℕ} (r : Result NodeNumber Refusal)
+    → AnswersNode (λ s. subtree_end_value s k) x y k (node_end_of r)
     → SubtreeEnd x y k (node_end_of r)
 subtree_end_lem {x} {y} {k} r h = record {
   refuses = demand1.subtree_end_lem x y k r h;
   gives = λ n. shapes_given.subtree_end_lem x y k r n h;
 }
 
-grow_caret_lem : {x y x' y' : List ℕ} {k : ℕ} {r : Reply} → Repacked (growing x y k) x y x' y' r
+grow_caret_lem : {x y x' y' : List ℕ} {k : ℕ} {r : Result ℕ Refusal} → Repacked (growing x y k) x y x' y' r
     → GrowCaret x y x' y' k (reply_of r)
 grow_caret_lem {x} {y} {x'} {y'} {k} {r} h =
     let first = demand1.grow_caret_lem x y x' y' k r h in

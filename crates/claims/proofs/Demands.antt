@@ -4,14 +4,14 @@ use mathlib.Core.List.{List}
 use mathlib.Core.Logic.{◌↔◌}
 use Prim.Native.Nat.{ℕ}
 use lib.ListN.{length}
+use Rattle.std.specs.Prelude.{⊤, Result}
+use Rattle.refusals.specs.declared.Refusal.{Refusal}
 use Rattle.group.specs.Letters.{Word}
 use Rattle.group.specs.Bytes.{bytes_of}
 use Rattle.group.specs.Chains.{Joined}
 use Rattle.group.specs.Forms.{Form}
 use Rattle.refusals.specs.Outcomes.{accepted, drop_value, reply_of, verdict_of}
 use Rattle.refusals.proofs.Outcomes.{valued_accepted}
-use Rattle.refusals.specs.declared.Verdict.{Verdict}
-use Rattle.refusals.specs.declared.Reply.{Reply}
 use Rattle.refusals.specs.Memory.{Memory}
 use Rattle.records.specs.Format.{IsRecord}
 use Rattle.records.specs.Reading.{decode}
@@ -48,7 +48,7 @@ use Rattle.claims.proofs.ListRefusals.{list_refused}
 use Rattle.claims.proofs.PackedRefusals.{pack_refused, unpack_refused, node_refused, grow_refused}
 
 -- Word to record refuses as the word is judged, and then leaves everything.
-word_refused : {u : List ℕ} {m m' : Memory} {r : Reply} → Recorded u m m' r
+word_refused : {u : List ℕ} {m m' : Memory} {r : Result ℕ Refusal} → Recorded u m m' r
     → Refuses (reply_of r) (WordRefusal u m) × (IsRefused (reply_of r) → m' ≡ m)
 word_refused {u} {m} h = (
   refuses_when (λ w. length (encode_word w)) (judged_with u m) h.result (WordRefusal u m) (judged↔refusal u m),
@@ -58,12 +58,13 @@ word_refused {u} {m} h = (
 )
 
 -- The check refuses as the record is refused.
-check_refused : {s : List ℕ} {r : Verdict} → Checked s r → Refuses (verdict_of r) (RecordRefusal s)
+check_refused : {s : List ℕ} {r : Result ⊤ Refusal} → Checked s r → Refuses (verdict_of r) (RecordRefusal s)
 check_refused {s} h =
     refuses_when (λ f. 0) (decode s) h.result (RecordRefusal s) (decoded↔refusal s h.are_bytes)
 
 -- It accepts the records of forms and nothing else.
-check_accepts : {s : List ℕ} {r : Verdict} → Checked s r → (verdict_of r ≡ accepted 0) ↔ ((f : Form) × IsRecord s f)
+check_accepts : {s : List ℕ} {r : Result ⊤ Refusal} → Checked s r
+    → (verdict_of r ≡ accepted 0) ↔ ((f : Form) × IsRecord s f)
 check_accepts {s} h =
     let accepts = (check_refused h).accepted_just_when in
     let records = records_are_accepted s h.are_bytes in (
@@ -79,7 +80,7 @@ equal↔joined : (w x : Word) (f : CallOn w) (g : CallOn x) → (record_by f ≡
 equal↔joined w x f g = listed↔joined w x (call_listed w f) (call_listed x g)
 
 -- An accepted call of an export is an accepted call of what it passes on to.
-abbrev passed_on : {R : Memory → Memory → Reply → Type 0} → ExportedMemoryCall R → MemoryCall R
+abbrev passed_on : {R : Memory → Memory → Result ℕ Refusal → Type 0} → ExportedMemoryCall R → MemoryCall R
 passed_on f = record {
   lent = f.lent;
   left = f.left;

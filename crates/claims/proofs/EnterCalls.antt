@@ -6,10 +6,11 @@ use mathlib.Core.Logic.{inl}
 use Prim.Native.Nat.{ℕ, suc, ◌+◌, ◌<◌, ◌≤◌}
 use native.Mathlib.Omega.{arith}
 use lib.ListN.{length}
+use Rattle.std.specs.Prelude.{Ok, Result}
 use Rattle.group.specs.Letters.{Word}
 use Rattle.group.specs.Bytes.{bytes_of}
+use Rattle.refusals.specs.declared.Refusal.{Refusal}
 use Rattle.refusals.specs.Outcomes.{Outcome, accepted, refused, valued}
-use Rattle.refusals.specs.declared.Reply.TheVariants.{Number}
 use Rattle.refusals.specs.Memory.{Memory}
 use Rattle.refusals.proofs.Outcomes.{accepted_same, accepted_refused}
 use Rattle.fields.specs.Fields.{head_size}
@@ -64,7 +65,8 @@ fits s q w n = at_most (λ a. n (inl a))
     at_most a = omega (arith, a)
 
 -- A call.
-module _ (u : List ℕ) (m m' : Memory) (h : ℕ) (s s' : List ℕ) (r : Entered) (c : EnteredWord u m m' h s s' r) where
+module _ (u : List ℕ) (m m' : Memory) (h : ℕ) (s s' : List ℕ) (r : Result Entered Refusal)
+    (c : EnteredWord u m m' h s s' r) where
   abbrev outcome : Outcome Found
   outcome = entered_in u m s h
 
@@ -106,7 +108,7 @@ module _ (u : List ℕ) (m m' : Memory) (h : ℕ) (s s' : List ℕ) (r : Entered
 
     -- Tables and record buffer are left as by word to record.
     word_call : (w : Word) (y : Found) → judged_with u m ≡ accepted w → outcome ≡ accepted y
-        → Recorded u m m' (Number (length (encode_word w)))
+        → Recorded u m m' (Ok (length (encode_word w)))
     word_call w y j f = record {
       result = sym (ap (λ (o : Outcome Word). count_record o) j);
       leaves = subst (λ (o : Outcome Word). Left o m m') (ap (beside (judged_with u m)) f) c.leaves;

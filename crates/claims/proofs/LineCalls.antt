@@ -6,14 +6,13 @@ use mathlib.Core.Logic.{◌⊎◌}
 use Prim.Native.Nat.{ℕ, zero, suc, ◌<◌}
 use native.Mathlib.Omega.{arith}
 use lib.ListN.{length, take, replicate, length-replicate}
+use Rattle.std.specs.Prelude.{Result, Ok, Err}
 use Rattle.lists.specs.Entries.{At}
 use Rattle.lists.proofs.Writes.{sets_front}
 use Rattle.group.specs.Letters.{Word}
 use Rattle.group.specs.Forms.{b_side, a_side}
 use Rattle.group.specs.Limits.{limit}
 use Rattle.refusals.specs.Outcomes.{Outcome, accepted, refused, reply_of}
-use Rattle.refusals.specs.declared.Reply.{Reply}
-use Rattle.refusals.specs.declared.Reply.TheVariants.{Number, Refused}
 use Rattle.refusals.specs.declared.Refusal.{Refusal}
 use Rattle.refusals.specs.declared.Refusal.TheVariants.{TooManyLetters, NotLetter, ShortTable, ShortBuffer}
 use Rattle.refusals.specs.Refusals.{number_of, place_of}
@@ -102,24 +101,24 @@ calls_ran (c ∷ cs) b a b' a' b_long a_long (eb, ea, from) =
     at bl al rest (suc i) d n p h e = rest.only_words i d n p h e
 
 -- An answer to every word and whatever is lent with it.
-some_reply : (u : List ℕ) (m : Memory) → (r : Reply) × (reply_of r ≡ count_record (judged_with u m))
+some_reply : (u : List ℕ) (m : Memory) → (r : Result ℕ Refusal) × (reply_of r ≡ count_record (judged_with u m))
 some_reply u m = go (judge_word u m)
   where
     refusal : (x : Refusal) (n p : ℕ) → n ≡ number_of x → p ≡ place_of x → judged_with u m ≡ refused n p
-        → (r : Reply) × (reply_of r ≡ count_record (judged_with u m))
+        → (r : Result ℕ Refusal) × (reply_of r ≡ count_record (judged_with u m))
     refusal x n p en ep e =
-        (Refused x, sym (ap (λ (o : Outcome Word). count_record o) e ∙ ap₂ refused en ep))
+        (Err x, sym (ap (λ (o : Outcome Word). count_record o) e ∙ ap₂ refused en ep))
 
     by : (n p : ℕ) → WordRefusal u m n p → judged_with u m ≡ refused n p
-        → (r : Reply) × (reply_of r ≡ count_record (judged_with u m))
+        → (r : Result ℕ Refusal) × (reply_of r ≡ count_record (judged_with u m))
     by n p (long en ep l) e = refusal TooManyLetters n p en ep e
     by n p (unlettered en l f) e = refusal (NotLetter p) n p en refl e
     by n p (short_table en ep l f t) e = refusal ShortTable n p en ep e
     by n p (short_buffer en ep l f t b) e = refusal ShortBuffer n p en ep e
 
-    go : Judged u m → (r : Reply) × (reply_of r ≡ count_record (judged_with u m))
+    go : Judged u m → (r : Result ℕ Refusal) × (reply_of r ≡ count_record (judged_with u m))
     go (refuses n p c e) = by n p c e
-    go (accepts w b c e) = (Number (length (encode_word w)), sym (ap (λ (o : Outcome Word). count_record o) e))
+    go (accepts w b c e) = (Ok (length (encode_word w)), sym (ap (λ (o : Outcome Word). count_record o) e))
 
 -- A call on a line from any tables, with a buffer of zeros.
 module _ (l b a : List ℕ) where

@@ -11,11 +11,12 @@ use native.Mathlib.Omega.{arith}
 use lib.ListN.{length}
 use lib.Seq.{sets}
 use borrow.Author.Tests.{lt-ltb, le-ltb}
+use Rattle.std.specs.Prelude.{Result}
+use Rattle.refusals.specs.declared.Refusal.{Refusal}
 use Rattle.lines.specs.Lines.{lines_of}
 use Rattle.group.specs.Forms.{b_side, a_side}
 use Rattle.group.specs.Limits.{limit}
 use Rattle.refusals.specs.Outcomes.{Outcome, accepted, refused, after, reply_of}
-use Rattle.refusals.specs.declared.Reply.{Reply}
 use Rattle.refusals.specs.Memory.{Memory, memory}
 use Rattle.refusals.proofs.Outcomes.{accepted_refused, refused_number, refused_place}
 use Rattle.wordlists.specs.Items.{list_size}
@@ -109,7 +110,7 @@ items↔refusal list m n p = ((λ e. from (judge_list list m) (items_refused (li
     to c = ap (λ (o : Outcome (List (List ℕ))). items_in o) (judged c)
 
 -- What is refused, and that a refusal leaves everything.
-pub list_refused : {list : List ℕ} {m m' : Memory} {r : Reply} → Listed list m m' r
+pub list_refused : {list : List ℕ} {m m' : Memory} {r : Result ℕ Refusal} → Listed list m m' r
     → Refuses (reply_of r) (ListRefusal list m) × (IsRefused (reply_of r) → m' ≡ m)
 list_refused {list} {m} {m'} h = (
   refuses_when length (items_in (list_judged_with list m)) h.output.result (ListRefusal list m)

@@ -5,6 +5,8 @@ use Prim.Native.Nat.{ℕ, ◌+◌, ◌<◌, ◌≤◌}
 use native.Mathlib.Omega.{arith}
 use lib.ListN.{length, take, drop, get_or, take-append-drop}
 use lib.Seq.{sets, take_at, drop_at}
+use Rattle.std.specs.Prelude.{Result}
+use Rattle.refusals.specs.declared.Refusal.{Refusal}
 use Rattle.lists.specs.Entries.{At}
 use Rattle.lists.proofs.Writes.{sets_front, sets-beyond}
 use Rattle.lines.specs.Lines.{lines_of}
@@ -15,7 +17,6 @@ use Rattle.group.specs.Products.{form_of}
 use Rattle.group.specs.Limits.{limit}
 use Rattle.group.proofs.Bytes.{word_read}
 use Rattle.refusals.specs.Outcomes.{Outcome, accepted, after, valued, reply_of}
-use Rattle.refusals.specs.declared.Reply.{Reply}
 use Rattle.refusals.specs.Memory.{Memory}
 use Rattle.refusals.proofs.Outcomes.{accepted_same, accepted_refused}
 use Rattle.letters.specs.Judging.{line_read}
@@ -44,7 +45,8 @@ record ListWritten (list : List ℕ) (m m' : Memory) (n : ℕ) : Type 0 where
   beyond : drop n m'.buffer ≡ drop n m.buffer
 
 -- By what is judged of the list.
-list_written : {list : List ℕ} {m m' : Memory} {r : Reply} {n : ℕ} → Listed list m m' r → reply_of r ≡ accepted n
+list_written : {list : List ℕ} {m m' : Memory} {r : Result ℕ Refusal} {n : ℕ} → Listed list m m' r
+    → reply_of r ≡ accepted n
     → ListWritten list m m' n
 list_written {list} {m} {m'} {r} {n} h e = go (judge_list list m)
   where

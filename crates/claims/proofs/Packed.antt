@@ -4,10 +4,11 @@ use mathlib.Core.List.{List}
 use Prim.Native.Nat.{ℕ, ◌<◌, ◌≤◌}
 use native.Mathlib.Omega.{arith}
 use lib.ListN.{length, take}
+use Rattle.std.specs.Prelude.{Result}
+use Rattle.refusals.specs.declared.Refusal.{Refusal}
 use Rattle.lists.proofs.Writes.{sets_front}
 use Rattle.refusals.specs.Outcomes.{Outcome, accepted, reply_of}
 use Rattle.refusals.specs.Placing.{Placed}
-use Rattle.refusals.specs.declared.Reply.{Reply}
 use Rattle.refusals.proofs.Outcomes.{accepted_same, accepted_refused}
 use Rattle.refusals.proofs.Placing.{fit_long}
 use Rattle.trees.specs.Trees.{Tree, Address, IsLeaf}
@@ -34,7 +35,7 @@ use Rattle.claims.proofs.PackedGiven.{
 }
 
 -- What was packed is unpacked as it was.
-unpacks_packed : {s xs ys xs' ys' out out' : List ℕ} {r q : Reply} {n : ℕ}
+unpacks_packed : {s xs ys xs' ys' out out' : List ℕ} {r q : Result ℕ Refusal} {n : ℕ}
     → Repacked (packing s xs ys) xs ys xs' ys' r → reply_of r ≡ accepted n
     → Placed (unpacking xs' ys' out) out out' q → length s ≤ length out
     → (reply_of q ≡ accepted (length s)) × (take (length s) out' ≡ s)
@@ -47,7 +48,7 @@ unpacks_packed {s} {xs} {ys} {xs'} {ys'} {out} {out'} h a g room =
     (left.0, ap (take (length s)) left.1 ∙ sets_front s out (length s) refl room)
 
 -- What was unpacked is packed into what it came from.
-packs_unpacked : (xs ys : List ℕ) {out out' zs ws zs' ws' : List ℕ} {q r : Reply} {m : ℕ}
+packs_unpacked : (xs ys : List ℕ) {out out' zs ws zs' ws' : List ℕ} {q r : Result ℕ Refusal} {m : ℕ}
     → Placed (unpacking xs ys out) out out' q → reply_of q ≡ accepted m
     → Repacked (packing (take m out') zs ws) zs ws zs' ws' r
     → numbers_of_value m ≤ length zs → numbers_of_value m ≤ length ws
@@ -102,7 +103,8 @@ grows_as_packed t k u xs ys p h =
     of_tree xs ys (λ s. roomed xs ys (grown_shape s k)) p ∙ ap (roomed xs ys) (grown_leaf t k u h)
 
 -- One outcome leaves and answers one thing.
-repacked_same : {o : Outcome (List ℕ)} {xs ys xs' ys' zs ws : List ℕ} {r q : Reply} → Repacked o xs ys xs' ys' r
+repacked_same : {o : Outcome (List ℕ)} {xs ys xs' ys' zs ws : List ℕ} {r q : Result ℕ Refusal}
+    → Repacked o xs ys xs' ys' r
     → Repacked o xs ys zs ws q → (xs' ≡ zs) × (ys' ≡ ws) × (reply_of r ≡ reply_of q)
 repacked_same h g = (
   h.numbers_left ∙ sym g.numbers_left,

@@ -12,12 +12,13 @@ use native.Mathlib.Decide.{dec_lt}
 use native.Mathlib.Omega.{arith}
 use lib.ListN.{length, take, drop}
 use lib.Seq.{sets, drop_at}
+use Rattle.std.specs.Prelude.{Result}
+use Rattle.refusals.specs.declared.Refusal.{Refusal}
 use Rattle.lists.specs.Tables.{values, filled}
 use Rattle.lists.proofs.Tables.{values_length}
 use Rattle.lists.proofs.Writes.{sets_front, sets-beyond}
 use Rattle.refusals.specs.Outcomes.{Outcome, accepted, refused, after, valued, then, reply_of}
 use Rattle.refusals.specs.Placing.{fitting, Placed}
-use Rattle.refusals.specs.declared.Reply.{Reply}
 use Rattle.refusals.proofs.Outcomes.{accepted_same, accepted_refused, valued_accepted}
 use Rattle.refusals.proofs.Placing.{fit_short, fit_long}
 use Rattle.group.specs.Points.{𝟎, 𝟏}
@@ -56,7 +57,7 @@ filled-behind : (m : ℕ) (f : ℕ → ℕ) (t : List ℕ) → drop m (filled m 
 filled-behind m f t = drop_at (values m f) (drop m t) m (values_length m f)
 
 -- The numbers and the summary that a call leaves that packs the shape s.
-repacked_rows : {o : Outcome (List ℕ)} {s xs ys xs' ys' : List ℕ} {r : Reply} → Repacked o xs ys xs' ys' r
+repacked_rows : {o : Outcome (List ℕ)} {s xs ys xs' ys' : List ℕ} {r : Result ℕ Refusal} → Repacked o xs ys xs' ys' r
     → o ≡ accepted s
     → (xs' ≡ filled (numbers_of_value (length s)) (number_at s) xs)
     × (ys' ≡ filled (numbers_of_value (length s)) (summary_at s) ys)
@@ -64,7 +65,8 @@ repacked_rows {o} {s} {xs} {ys} h e =
     (h.numbers_left ∙ ap (row_after xs number_at) e, h.summary_left ∙ ap (row_after ys summary_at) e)
 
 -- What it leaves and answers.
-pub repacked_fits : {o : Outcome (List ℕ)} {s xs ys xs' ys' : List ℕ} {r : Reply} → Repacked o xs ys xs' ys' r
+pub repacked_fits : {o : Outcome (List ℕ)} {s xs ys xs' ys' : List ℕ} {r : Result ℕ Refusal}
+    → Repacked o xs ys xs' ys' r
     → o ≡ accepted s → (reply_of r ≡ accepted (numbers_of_value (length s))) × Packs s xs' ys'
 repacked_fits {o} {s} {xs} {ys} h e =
     let rows = repacked_rows h e in
@@ -77,7 +79,8 @@ repacked_fits {o} {s} {xs} {ys} h e =
     )
 
 -- The same of the shape of a tree within the bound.
-packed_over : {o : Outcome (List ℕ)} {xs ys xs' ys' : List ℕ} {r : Reply} {n : ℕ} (t : Tree) → carets t ≤ max_carets
+packed_over : {o : Outcome (List ℕ)} {xs ys xs' ys' : List ℕ} {r : Result ℕ Refusal} {n : ℕ} (t : Tree)
+    → carets t ≤ max_carets
     → Repacked o xs ys xs' ys' r → o ≡ accepted (shape t) → reply_of r ≡ accepted n → PackedOver t xs ys xs' ys' n
 packed_over {o} {xs} {ys} {xs'} {ys'} {r} {n} t few h e a =
     let m : ℕ = numbers_of_value (length (shape t)) in
@@ -94,14 +97,15 @@ packed_over {o} {xs} {ys} {xs'} {ys'} {r} {n} t few h e a =
     }
 
 -- The shape that an accepted call packs.
-repacked_shape : {o : Outcome (List ℕ)} {xs ys xs' ys' : List ℕ} {r : Reply} {n : ℕ} → Repacked o xs ys xs' ys' r
+repacked_shape : {o : Outcome (List ℕ)} {xs ys xs' ys' : List ℕ} {r : Result ℕ Refusal} {n : ℕ}
+    → Repacked o xs ys xs' ys' r
     → reply_of r ≡ accepted n → (s : List ℕ) × (o ≡ accepted s)
 repacked_shape {o} {xs} {ys} {xs'} {ys'} {r} {n} h a =
     let x = valued_accepted (λ u. numbers_of_value (length u)) o n (sym h.result ∙ a) in
     (x.0, x.1)
 
 -- What is packed.
-pub pack_given : {s xs ys xs' ys' : List ℕ} {r : Reply} {n : ℕ} → Repacked (packing s xs ys) xs ys xs' ys' r
+pub pack_given : {s xs ys xs' ys' : List ℕ} {r : Result ℕ Refusal} {n : ℕ} → Repacked (packing s xs ys) xs ys xs' ys' r
     → reply_of r ≡ accepted n → PackGiven s xs ys xs' ys' n
 pack_given {s} {xs} {ys} {xs'} {ys'} {r} {n} h a = go (repacked_shape h a) (read_shape s)
   where
@@ -116,7 +120,8 @@ abbrev pub fitted : List ℕ → List ℕ → Outcome (List ℕ)
 fitted out s = fitting (length s) s out
 
 -- What a call that places the bytes s leaves and answers.
-pub placed_fits : {o : Outcome (List ℕ)} {s out out' : List ℕ} {r : Reply} → Placed o out out' r → o ≡ accepted s
+pub placed_fits : {o : Outcome (List ℕ)} {s out out' : List ℕ} {r : Result ℕ Refusal} → Placed o out out' r
+    → o ≡ accepted s
     → (reply_of r ≡ accepted (length s)) × (out' ≡ sets out 0 s)
 placed_fits {o} {s} {out} h e = (
   h.result ∙ ap (valued length) e,
@@ -132,7 +137,7 @@ fitted_long s out m e = go (dec_lt (length out) (length s))
     go (no h) = omega (arith, h)
 
 -- What is unpacked.
-pub unpack_given : {xs ys out out' : List ℕ} {r : Reply} {n : ℕ} → Placed (unpacking xs ys out) out out' r
+pub unpack_given : {xs ys out out' : List ℕ} {r : Result ℕ Refusal} {n : ℕ} → Placed (unpacking xs ys out) out out' r
     → reply_of r ≡ accepted n → UnpackGiven xs ys out out' n
 unpack_given {xs} {ys} {out} {out'} {r} {n} h a = go (read_packed xs ys)
   where
@@ -209,7 +214,8 @@ end_given {xs} {ys} {k} c a =
     (t, u.0, x.1, h, nodes_before t k u.0 h x.3)
 
 -- What is grown.
-grow_given : {xs ys xs' ys' : List ℕ} {k : ℕ} {r : Reply} {n : ℕ} → Repacked (growing xs ys k) xs ys xs' ys' r
+grow_given : {xs ys xs' ys' : List ℕ} {k : ℕ} {r : Result ℕ Refusal} {n : ℕ}
+    → Repacked (growing xs ys k) xs ys xs' ys' r
     → reply_of r ≡ accepted n → GrowGiven xs ys xs' ys' k n
 grow_given {xs} {ys} {xs'} {ys'} {k} {r} {n} h a = go (repacked_shape h a) (read_packed xs ys)
   where

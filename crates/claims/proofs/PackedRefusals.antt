@@ -15,10 +15,11 @@ use lib.ListN.{length}
 use lib.Dec.{ltb}
 use lib.Seq.{sets}
 use borrow.Author.Tests.{lt-ltb, le-ltb}
+use Rattle.std.specs.Prelude.{Result}
+use Rattle.refusals.specs.declared.Refusal.{Refusal}
 use Rattle.lists.specs.Tables.{filled}
 use Rattle.refusals.specs.Outcomes.{Outcome, accepted, refused, after, then, reply_of}
 use Rattle.refusals.specs.Placing.{fitting, Placed}
-use Rattle.refusals.specs.declared.Reply.{Reply}
 use Rattle.refusals.proofs.Outcomes.{accepted_refused, refused_number, refused_place}
 use Rattle.refusals.proofs.Placing.{fit_short, fit_long}
 use Rattle.trees.specs.Trees.{Tree, carets, Address, IsLeaf}
@@ -276,7 +277,7 @@ abbrev pub row_after : List ℕ → (List ℕ → ℕ → ℕ) → Outcome (List
 row_after old entry o = after o old (λ s. filled (numbers_of_value (length s)) (entry s) old)
 
 -- Numbers and a summary that were lent for packing: what is refused, and that a refusal leaves both.
-repacked_refused : {o : Outcome (List ℕ)} {xs ys xs' ys' : List ℕ} {r : Reply} (R : ℕ → ℕ → Type 0)
+repacked_refused : {o : Outcome (List ℕ)} {xs ys xs' ys' : List ℕ} {r : Result ℕ Refusal} (R : ℕ → ℕ → Type 0)
     → ((number place : ℕ) → (o ≡ refused number place) ↔ R number place) → Repacked o xs ys xs' ys' r
     → Refuses (reply_of r) R × (IsRefused (reply_of r) → (xs' ≡ xs) × (ys' ≡ ys))
 repacked_refused {o} {xs} {ys} R c h = (
@@ -289,17 +290,17 @@ repacked_refused {o} {xs} {ys} R c h = (
 )
 
 -- What packing refuses, and what growing refuses.
-pub pack_refused : {s xs ys xs' ys' : List ℕ} {r : Reply} → Repacked (packing s xs ys) xs ys xs' ys' r
+pub pack_refused : {s xs ys xs' ys' : List ℕ} {r : Result ℕ Refusal} → Repacked (packing s xs ys) xs ys xs' ys' r
     → Refuses (reply_of r) (PackRefusal s (length xs) (length ys))
     × (IsRefused (reply_of r) → (xs' ≡ xs) × (ys' ≡ ys))
 pack_refused {s} {xs} {ys} h = repacked_refused (PackRefusal s (length xs) (length ys)) (pack↔refusal s xs ys) h
 
-pub grow_refused : {xs ys xs' ys' : List ℕ} {k : ℕ} {r : Reply} → Repacked (growing xs ys k) xs ys xs' ys' r
+pub grow_refused : {xs ys xs' ys' : List ℕ} {k : ℕ} {r : Result ℕ Refusal} → Repacked (growing xs ys k) xs ys xs' ys' r
     → Refuses (reply_of r) (GrowRefusal xs ys k) × (IsRefused (reply_of r) → (xs' ≡ xs) × (ys' ≡ ys))
 grow_refused {xs} {ys} {xs'} {ys'} {k} h = repacked_refused (GrowRefusal xs ys k) (grow↔refusal xs ys k) h
 
 -- What unpacking refuses, and that a refusal leaves the bytes.
-pub unpack_refused : {xs ys s s' : List ℕ} {r : Reply} → Placed (unpacking xs ys s) s s' r
+pub unpack_refused : {xs ys s s' : List ℕ} {r : Result ℕ Refusal} → Placed (unpacking xs ys s) s s' r
     → Refuses (reply_of r) (UnpackRefusal xs ys (length s)) × (IsRefused (reply_of r) → s' ≡ s)
 unpack_refused {xs} {ys} {s} h = (
   refuses_when length (unpacking xs ys s) h.result (UnpackRefusal xs ys (length s)) (unpack↔refusal xs ys s),

@@ -9,6 +9,8 @@ use native.Mathlib.Omega.{arith}
 use lib.ListN.{length, take, drop}
 use lib.Seq.{sets}
 use borrow.Author.Tests.{lt-ltb, le-ltb}
+use Rattle.std.specs.Prelude.{Result}
+use Rattle.refusals.specs.declared.Refusal.{Refusal}
 use Rattle.lists.proofs.Writes.{sets_front, sets-beyond}
 use Rattle.group.specs.Forms.{Form}
 use Rattle.refusals.specs.Outcomes.{Outcome, accepted, refused, valued, reply_of}
@@ -27,7 +29,6 @@ use Rattle.lengths.specs.Kinds.{kinds}
 use Rattle.lengths.specs.Weights.{form_length}
 use Rattle.lengths.proofs.CaretKinds.{kind_at}
 use Rattle.pairs.specs.Promises.{paired_in, tree_after, Paired, Measured}
-use Rattle.refusals.specs.declared.Reply.{Reply}
 use Rattle.pairs.proofs.Tables.{carets-most}
 use Rattle.claims.specs.Refusals.{RecordRefusal, ShortShape, PairRefusal, unread, short_shape}
 use Rattle.claims.specs.Answers.{IsRefused, Refuses}
@@ -112,7 +113,7 @@ module _ (s : List ℕ) (m p : ℕ) where
       to (unread c) = rw ((decoded↔refusal s bytes n q).1 c) refl
       to (short_shape en eq short) = short_refused short ∙ sym (ap₂ refused en eq)
 
-module _ {s m p m' p' : List ℕ} {r : Reply} (h : Paired s m p m' p' r) where
+module _ {s m p m' p' : List ℕ} {r : Result ℕ Refusal} (h : Paired s m p m' p' r) where
   -- Refused as what is found, and then both buffers stay.
   pub pair_refused : Refuses (reply_of r) (PairRefusal s (length m) (length p))
       × (IsRefused (reply_of r) → (m' ≡ m) × (p' ≡ p))
@@ -179,13 +180,13 @@ module _ {s m p m' p' : List ℕ} {r : Reply} (h : Paired s m p m' p' r) where
           subst (λ (k : ℕ). PairOfRecord s m p m' p' k) same (of_record f e o hm hp)
 
 -- Refused as the record is.
-pub length_refused : {count : Form → ℕ} {s : List ℕ} {r : Reply} → Measured count s r
+pub length_refused : {count : Form → ℕ} {s : List ℕ} {r : Result ℕ Refusal} → Measured count s r
     → Refuses (reply_of r) (RecordRefusal s)
 length_refused {count} {s} h =
     refuses_when count (decode s) h.result (RecordRefusal s) (decoded↔refusal s h.are_bytes)
 
 -- The length is that of the kinds of the pair's carets, by any count that gives it.
-pub length_gives : {count : Form → ℕ} {s : List ℕ} {r : Reply} → ((f : Form) → count f ≡ form_length f)
+pub length_gives : {count : Form → ℕ} {s : List ℕ} {r : Result ℕ Refusal} → ((f : Form) → count f ≡ form_length f)
     → Measured count s r → (n : ℕ) → reply_of r ≡ accepted n → LengthOfRecord s n
 length_gives {count} {s} same h n a =
     let x = valued_accepted count (decode s) n (sym h.result ∙ a) in

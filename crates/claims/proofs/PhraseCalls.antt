@@ -8,6 +8,8 @@ use native.Mathlib.Decide.{dec_lt}
 use native.Mathlib.Omega.{arith}
 use lib.ListN.{length, take, drop}
 use lib.Seq.{sets}
+use Rattle.std.specs.Prelude.{Result}
+use Rattle.refusals.specs.declared.Refusal.{Refusal}
 use Rattle.lists.proofs.Writes.{sets_front, sets-beyond}
 use Rattle.group.specs.Limits.{limit}
 use Rattle.group.specs.Forms.{Form, levels}
@@ -16,7 +18,6 @@ use Rattle.group.proofs.Powers.{powers_again, form_sizes}
 use Rattle.group.proofs.Reduced.{Canonical}
 use Rattle.refusals.specs.Outcomes.{Outcome, accepted, refused, after, valued, reply_of}
 use Rattle.refusals.specs.Placing.{fitting}
-use Rattle.refusals.specs.declared.Reply.{Reply}
 use Rattle.refusals.specs.Memory.{Memory}
 use Rattle.refusals.proofs.Outcomes.{accepted_same, accepted_refused, refused_number, refused_place}
 use Rattle.refusals.proofs.Placing.{fit_short, fit_long}
@@ -90,7 +91,7 @@ abbrev buffer_by : List ℕ → Outcome (List ℕ) → List ℕ
 buffer_by out o = after o out (λ text. sets out 0 text)
 
 -- Refused as what is found, and then the buffer stays.
-pub phrase_refused : {s t t' : List ℕ} {r : Reply} → TextWritten s t t' r
+pub phrase_refused : {s t t' : List ℕ} {r : Result ℕ Refusal} → TextWritten s t t' r
     → Refuses (reply_of r) (PhraseRefusal s (length t)) × (IsRefused (reply_of r) → t' ≡ t)
 phrase_refused {s} {t} h = (
   refuses_when length (text_in s t) h.placed.result (PhraseRefusal s (length t))
@@ -105,7 +106,7 @@ pub record PhrasedAs (s t t' : List ℕ) (n : ℕ) (f : Form) : Type 0 where
   pub front : take n t' ≡ form_text f
   pub beyond : drop n t' ≡ drop n t
 
-pub phrased_as : {s t t' : List ℕ} {r : Reply} {n : ℕ} → TextWritten s t t' r → reply_of r ≡ accepted n
+pub phrased_as : {s t t' : List ℕ} {r : Result ℕ Refusal} {n : ℕ} → TextWritten s t t' r → reply_of r ≡ accepted n
     → (f : Form) × PhrasedAs s t t' n f
 phrased_as {s} {t} {t'} {r} {n} h a = go (find s t)
   where
@@ -128,7 +129,7 @@ phrased_as {s} {t} {t'} {r} {n} h a = go (find s t)
           },
         )
 
-pub phrase_gives : {s t t' : List ℕ} {r : Reply} {n : ℕ} → TextWritten s t t' r → reply_of r ≡ accepted n
+pub phrase_gives : {s t t' : List ℕ} {r : Result ℕ Refusal} {n : ℕ} → TextWritten s t t' r → reply_of r ≡ accepted n
     → TextOfRecord s t t' n
 phrase_gives {s} h a =
     let f = phrased_as h a in
@@ -174,7 +175,8 @@ phrase_form {s} {t} {t'} {n} {f} bytes c =
     }
 
 -- The record of the text.
-pub phrase_again : {s t t' : List ℕ} {n k : ℕ} {f : Form} {m m' : Memory} {r : Reply} → Bytes s → PhrasedAs s t t' n f
+pub phrase_again : {s t t' : List ℕ} {n k : ℕ} {f : Form} {m m' : Memory} {r : Result ℕ Refusal} → Bytes s
+    → PhrasedAs s t t' n f
     → TextRecorded (take n t') m m' r → reply_of r ≡ accepted k → take k m'.buffer ≡ s
 phrase_again {s} {t} {t'} {n} {k} {f} bytes c h e =
     (text_listed (form_powers f) h e c.front).is ∙ sym (phrase_form bytes c).is

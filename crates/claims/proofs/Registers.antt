@@ -4,8 +4,9 @@ use mathlib.Core.Path.{◌≡◌, sym, ap, ◌∙◌}
 use mathlib.Core.List.{List}
 use mathlib.Core.Logic.{◌↔◌}
 use Prim.Native.Nat.{ℕ}
+use Rattle.std.specs.Prelude.{⊤, Result}
+use Rattle.refusals.specs.declared.Refusal.{Refusal}
 use Rattle.refusals.specs.Outcomes.{accepted, drop_value, verdict_of}
-use Rattle.refusals.specs.declared.Verdict.{Verdict}
 use Rattle.refusals.proofs.Outcomes.{valued_accepted}
 use Rattle.registers.specs.Reading.{read_register}
 use Rattle.registers.specs.Answers.{RegisterChecked}
@@ -18,7 +19,7 @@ use Rattle.claims.specs.Registers.{IsRegister, RegistersAreRead, History, SameEn
 use Rattle.claims.proofs.EnterCalls.{account_charged}
 
 -- The check accepts just the registers.
-check_accepts : (s : List ℕ) (v : Verdict) → RegisterChecked s v → (verdict_of v ≡ accepted 0) ↔ IsRegister s
+check_accepts : (s : List ℕ) (v : Result ⊤ Refusal) → RegisterChecked s v → (verdict_of v ≡ accepted 0) ↔ IsRegister s
 check_accepts s v h = (
   (λ a.
       let x = valued_accepted (λ q. 0) (read_register s) 0 (sym h.result ∙ a) in

@@ -9,6 +9,8 @@ use native.Mathlib.Omega.{arith}
 use lib.ListN.{length, take, drop}
 use lib.Seq.{sets}
 use borrow.Author.Tests.{lt-ltb, le-ltb}
+use Rattle.std.specs.Prelude.{Result}
+use Rattle.refusals.specs.declared.Refusal.{Refusal}
 use Rattle.lists.proofs.Writes.{sets_front, sets-beyond}
 use Rattle.group.specs.Letters.{Word}
 use Rattle.group.specs.Bytes.{is_word, bytes_of, read_word}
@@ -22,7 +24,6 @@ use Rattle.group.proofs.Products.{form_joined}
 use Rattle.group.proofs.Theorems.{joined_map, the_form_joined}
 use Rattle.group.proofs.FreeWords.{freely_joined}
 use Rattle.refusals.specs.Outcomes.{Outcome, accepted, refused, after, valued, reply_of}
-use Rattle.refusals.specs.declared.Reply.{Reply}
 use Rattle.refusals.specs.Memory.{Memory}
 use Rattle.refusals.proofs.Outcomes.{accepted_same, accepted_refused, refused_number, refused_place}
 use Rattle.records.specs.Format.{encode}
@@ -119,7 +120,7 @@ module _ (s : List ℕ) (n : ℕ) where
       to (short_word ek eq l) = short_refused l ∙ sym (ap₂ refused ek eq)
 
 -- Refused as what is found, and then the buffer stays.
-pub spelling_refused : {s w w' : List ℕ} {r : Reply} → Spelled s w w' r
+pub spelling_refused : {s w w' : List ℕ} {r : Result ℕ Refusal} → Spelled s w w' r
     → Refuses (reply_of r) (SpellingRefusal s (length w)) × (IsRefused (reply_of r) → w' ≡ w)
 spelling_refused {s} {w} h = (
   refuses_when length (spelled_in s (length w)) h.result (SpellingRefusal s (length w))
@@ -148,7 +149,7 @@ pub record SpelledAs (s w w' : List ℕ) (n : ℕ) (f : Form) : Type 0 where
   pub room : length (spelling f) ≤ length w
   pub holds : w' ≡ sets w 0 (bytes_of (spelling f))
 
-pub spelled_as : {s w w' : List ℕ} {r : Reply} {n : ℕ} → Spelled s w w' r → reply_of r ≡ accepted n
+pub spelled_as : {s w w' : List ℕ} {r : Result ℕ Refusal} {n : ℕ} → Spelled s w w' r → reply_of r ≡ accepted n
     → (f : Form) × SpelledAs s w w' n f
 spelled_as {s} {w} {w'} {r} {n} h a = go (find s (length w))
   where
@@ -177,7 +178,7 @@ front_spelled {s} {w} {w'} {n} {f} c =
     ∙ sets_front (bytes_of (spelling f)) w n (bytes_length (spelling f) ∙ c.number) (omega (arith, c.number, c.room))
 
 -- What is answered where the record is read.
-pub word_of_record : {s w w' : List ℕ} {r : Reply} → Spelled s w w' r → None (RecordRefusal s)
+pub word_of_record : {s w w' : List ℕ} {r : Result ℕ Refusal} → Spelled s w w' r → None (RecordRefusal s)
     → WordOfRecord s w w' (reply_of r)
 word_of_record {s} {w} {w'} {r} h none = go (find s (length w))
   where

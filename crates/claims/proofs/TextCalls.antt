@@ -6,6 +6,8 @@ use Prim.Native.Nat.{ℕ, suc, ◌+◌, ◌≤◌}
 use native.Mathlib.Omega.{arith}
 use lib.ListN.{length, take}
 use lib.Seq.{sets}
+use Rattle.std.specs.Prelude.{Result}
+use Rattle.refusals.specs.declared.Refusal.{Refusal}
 use Rattle.lists.proofs.Writes.{sets_front}
 use Rattle.group.specs.Letters.{Word}
 use Rattle.group.specs.Limits.{limit}
@@ -13,7 +15,6 @@ use Rattle.group.specs.Forms.{b_side, a_side, levels}
 use Rattle.group.specs.Powers.{SignedPower, product_letters, exponent_sizes}
 use Rattle.group.proofs.Powers.{product_sum}
 use Rattle.refusals.specs.Outcomes.{Outcome, accepted, refused, after, reply_of}
-use Rattle.refusals.specs.declared.Reply.{Reply}
 use Rattle.refusals.specs.Memory.{Memory, memory}
 use Rattle.refusals.proofs.Outcomes.{accepted_refused, accepted_same, valued_accepted}
 use Rattle.records.specs.Format.{encode, buffer_size}
@@ -44,7 +45,7 @@ abbrev buffer_by : Memory → Outcome (List SignedPower) → List ℕ
 buffer_by m o = after o m.buffer (λ ps. sets m.buffer 0 (encode (product_form ps)))
 
 -- Text to record refuses as the text is judged, and then leaves everything.
-pub text_refused : {t : List ℕ} {m m' : Memory} {r : Reply} → TextRecorded t m m' r
+pub text_refused : {t : List ℕ} {m m' : Memory} {r : Result ℕ Refusal} → TextRecorded t m m' r
     → Refuses (reply_of r) (TextRefusal t m) × (IsRefused (reply_of r) → m' ≡ m)
 text_refused {t} {m} {m'} h = (
   refuses_when record_size (judged_text h.found m) h.result (TextRefusal t m) (text↔refusal t m h.reads),
@@ -83,14 +84,15 @@ text_taken {t} {m} (read ps range text few) qs e = go (judge_room m ps)
         (record { in_range = range; text = text; small = few; low = low; roomy = h; judged_so = f })
 
 -- The powers of an accepted call.
-pub text_call : {t : List ℕ} {m m' : Memory} {r : Reply} {n : ℕ} (h : TextRecorded t m m' r) → reply_of r ≡ accepted n
+pub text_call : {t : List ℕ} {m m' : Memory} {r : Result ℕ Refusal} {n : ℕ} (h : TextRecorded t m m' r)
+    → reply_of r ≡ accepted n
     → (ps : List SignedPower) × Taken t m h.found ps × (record_size ps ≡ n)
 text_call {t} {m} {m'} {r} {n} h e =
     let x = valued_accepted record_size (judged_text h.found m) n (sym h.result ∙ e) in
     (x.0, text_taken h.reads x.0 x.1, x.2)
 
 -- What it leaves.
-module _ {t : List ℕ} {m m' : Memory} {r : Reply} {n : ℕ} (ps : List SignedPower) (h : TextRecorded t m m' r)
+module _ {t : List ℕ} {m m' : Memory} {r : Result ℕ Refusal} {n : ℕ} (ps : List SignedPower) (h : TextRecorded t m m' r)
     (e : reply_of r ≡ accepted n) (is : t ≡ text_of ps) where
   taken : Taken t m h.found ps × (record_size ps ≡ n)
   taken =

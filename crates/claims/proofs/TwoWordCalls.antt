@@ -7,6 +7,8 @@ use mathlib.Core.Logic.{inl, inr, ◌↔◌}
 use Prim.Native.Nat.{ℕ, ◌≤◌}
 use native.Mathlib.Omega.{arith}
 use lib.ListN.{length}
+use Rattle.std.specs.Prelude.{Result, Ok}
+use Rattle.refusals.specs.declared.Refusal.{Refusal}
 use Rattle.lists.specs.SameBytes.{same_bytes}
 use Rattle.lists.proofs.SameBytes.{same_bytes_lem, bytes_same}
 use Rattle.group.specs.Letters.{Word, inverse}
@@ -16,8 +18,6 @@ use Rattle.group.specs.Limits.{limit}
 use Rattle.group.specs.Products.{form_of}
 use Rattle.group.proofs.Exchange.{form_inverse}
 use Rattle.refusals.specs.Outcomes.{Outcome, accepted, refused}
-use Rattle.refusals.specs.declared.Reply.{Reply}
-use Rattle.refusals.specs.declared.Reply.TheVariants.{Number}
 use Rattle.refusals.specs.Memory.{Memory}
 use Rattle.records.specs.Format.{encode, Within}
 use Rattle.records.specs.Exchange.{exchanged}
@@ -28,6 +28,7 @@ use Rattle.comparisons.specs.Comparing.{Decision, same, inverse as inverses, dif
 use Rattle.comparisons.specs.Comparing.{decided}
 use Rattle.comparisons.specs.Comparing.{decision_of, ComparedBy, Compared}
 use Rattle.comparisons.specs.declared.Comparison.{Comparison}
+use Rattle.comparisons.specs.declared.RefusedWord.{RefusedWord}
 use Rattle.claims.specs.Refusals.{WordRefusal}
 use Rattle.claims.specs.Answers.{None, WordRefused, Answered, RefusesWords}
 use Rattle.claims.specs.Given.{Decides}
@@ -78,7 +79,7 @@ second_word (accepted w) (refused i j) n p d = ((w, refl), cc)
 second_word (accepted w) (accepted x) n p d = absurd (no_refusal (equals w x) (exchanges w x) d)
 
 -- What is left of the memories, by the two outcomes.
-module _ {m m' k k' : Memory} {c : Comparison} where
+module _ {m m' k k' : Memory} {c : Result Comparison RefusedWord} where
   -- A refusal leaves both.
   kept-both : (o q : Outcome Word) → ComparedBy o q m m' k k' c → WordRefused (decision_of c) → (m' ≡ m) × (k' ≡ k)
   kept-both (refused i j) (refused a b) h d = (left_refused a b refl h.leaves1, left_refused i j refl h.leaves2)
@@ -136,13 +137,13 @@ inverse_listed x few = record {
 
 -- A memory that is left as the word's own call leaves it.
 own_call : {u : List ℕ} {m m' : Memory} → (w : Word) × (judged_with u m ≡ accepted w) × Left (judged_with u m) m m'
-    → (r : Reply) × Recorded u m m' r
+    → (r : Result ℕ Refusal) × Recorded u m m' r
 own_call (w, e, left) = (
-  Number (length (encode_word w)),
+  Ok (length (encode_word w)),
   record { result = sym (ap (λ (o : Outcome Word). count_record o) e); leaves = left },
 )
 
-module _ (u v : List ℕ) (m m' k k' : Memory) (c : Comparison) (h : Compared u m m' v k k' c) where
+module _ (u v : List ℕ) (m m' k k' : Memory) (c : Result Comparison RefusedWord) (h : Compared u m m' v k k' c) where
   first_just_when : (n p : ℕ) → (decision_of c ≡ refused_word 0 n p) ↔ WordRefusal u m n p
   first_just_when n p = (
     (λ d. (judged↔refusal u m n p).0 (first_word (judged_with u m) (judged_with v k) n p (sym h.result ∙ d))),
@@ -181,7 +182,8 @@ module _ (u v : List ℕ) (m m' k k' : Memory) (c : Comparison) (h : Compared u 
   )
 
   -- An answer leaves each memory as the word's own call does.
-  pub own_calls : Answered (decision_of c) → ((r : Reply) × Recorded u m m' r) × ((q : Reply) × Recorded v k k' q)
+  pub own_calls : Answered (decision_of c)
+      → ((r : Result ℕ Refusal) × Recorded u m m' r) × ((q : Result ℕ Refusal) × Recorded v k k' q)
   own_calls a = let x = left_both (judged_with u m) (judged_with v k) h a in (own_call x.0, own_call x.1)
 
   -- Two accepted words: same, inverse or different by chains.

@@ -5,6 +5,8 @@ use mathlib.Core.Logic.{◌↔◌}
 use Prim.Native.Nat.{ℕ, ◌+◌, ◌≤◌}
 use native.Mathlib.Omega.{arith}
 use lib.ListN.{length, take}
+use Rattle.std.specs.Prelude.{Result}
+use Rattle.refusals.specs.declared.Refusal.{Refusal}
 use Rattle.group.specs.Letters.{Word}
 use Rattle.group.specs.Bytes.{bytes_of}
 use Rattle.group.specs.Chains.{Joined}
@@ -14,7 +16,6 @@ use Rattle.group.specs.Limits.{limit}
 use Rattle.group.proofs.Bytes.{read_length}
 use Rattle.group.proofs.Sizes.{form_sum}
 use Rattle.refusals.specs.Outcomes.{Outcome, accepted, refused, reply_of}
-use Rattle.refusals.specs.declared.Reply.{Reply}
 use Rattle.refusals.specs.Memory.{Memory, memory}
 use Rattle.refusals.proofs.Outcomes.{accepted_refused}
 use Rattle.records.proofs.WordForms.{form_within}
@@ -56,7 +57,7 @@ pub record CallOf (u : List ℕ) (m m' : Memory) (n : ℕ) : Type 0 where
   pub bytes : u ≡ bytes_of word
   pub judged_so : judged_with u m ≡ accepted word
 
-pub call_of : {u : List ℕ} {m m' : Memory} {r : Reply} {n : ℕ} → Recorded u m m' r → reply_of r ≡ accepted n
+pub call_of : {u : List ℕ} {m m' : Memory} {r : Result ℕ Refusal} {n : ℕ} → Recorded u m m' r → reply_of r ≡ accepted n
     → CallOf u m m' n
 call_of {u} {m} {m'} {r} {n} h e = go (judge_word u m)
   where
@@ -70,7 +71,7 @@ pub record FrontOf (u : List ℕ) (m m' : Memory) (n : ℕ) (w : Word) : Type 0 
   pub count : n ≡ length (encode_word w)
   pub front : take n m'.buffer ≡ encode_word w
 
-pub call_front : {u : List ℕ} {m m' : Memory} {r : Reply} {n : ℕ} {w : Word} → Recorded u m m' r
+pub call_front : {u : List ℕ} {m m' : Memory} {r : Result ℕ Refusal} {n : ℕ} {w : Word} → Recorded u m m' r
     → reply_of r ≡ accepted n → u ≡ bytes_of w → FrontOf u m m' n w
 call_front {u} {m} {m'} {r} {n} {w} h e b = go (judge_word u m)
   where
@@ -85,7 +86,7 @@ call_front {u} {m} {m'} {r} {n} {w} h e b = go (judge_word u m)
         record { judged_so = so; count = front.0; front = front.1 }
 
 -- The record that an accepted call writes.
-pub word_listed : {u : List ℕ} {m m' : Memory} {r : Reply} {n : ℕ} (w : Word) → Recorded u m m' r
+pub word_listed : {u : List ℕ} {m m' : Memory} {r : Result ℕ Refusal} {n : ℕ} (w : Word) → Recorded u m m' r
     → reply_of r ≡ accepted n → u ≡ bytes_of w → Listed w (take n m'.buffer)
 word_listed {u} {m} {m'} {r} {n} w h e b =
     let call = call_front {w = w} h e b in
@@ -98,7 +99,7 @@ record_fits u m w so =
     let fit = accepted_record u (length m.b) (length m.a) (length m.buffer) w so in
     omega (arith, encode_size (form_of w), form_sum w, fit.roomy, read_length u w fit.fit.reads)
 
-pub call_keeps_map : {u : List ℕ} {m m' : Memory} {r : Reply} {n : ℕ} {w : Word} → Recorded u m m' r
+pub call_keeps_map : {u : List ℕ} {m m' : Memory} {r : Result ℕ Refusal} {n : ℕ} {w : Word} → Recorded u m m' r
     → reply_of r ≡ accepted n → u ≡ bytes_of w → RecordOfWord m m' n w
 call_keeps_map {u} {m} {m'} {r} {n} {w} h e b =
     let call = call_front h e b in

@@ -11,17 +11,18 @@
 --     TwoWordCall u v     same_element on the bytes u and v, which answered
 --     ExportedCall w      thompson_word_to_record, thompson_text_to_record   exported_record c  the record it wrote
 -- Assumes nothing.
-use Rattle.std.specs.Prelude.{◌≡◌, List, ℕ, take}
+use Rattle.std.specs.Prelude.{◌≡◌, List, ℕ, take, Result}
+use Rattle.refusals.specs.declared.Refusal.{Refusal}
 use Rattle.group.specs.Letters.{Word}
 use Rattle.group.specs.Bytes.{bytes_of}
 use Rattle.group.specs.Forms.{Form}
 use Rattle.group.specs.Powers.{SignedPower, product_letters}
 use Rattle.refusals.specs.Outcomes.{accepted, reply_of}
-use Rattle.refusals.specs.declared.Reply.{Reply}
 use Rattle.refusals.specs.Memory.{Memory}
 use Rattle.words.specs.Recording.{Recorded}
 use Rattle.comparisons.specs.Comparing.{Compared, decision_of}
 use Rattle.comparisons.specs.declared.Comparison.{Comparison}
+use Rattle.comparisons.specs.declared.RefusedWord.{RefusedWord}
 use Rattle.lengths.specs.Weights.{form_length}
 use Rattle.pairs.specs.Promises.{Paired, label_sum, Measured}
 use Rattle.spelling.specs.Promises.{Spelled}
@@ -32,10 +33,10 @@ use Rattle.thompson.specs.declared.Answer.{Answer}
 use Rattle.claims.specs.Answers.{Answered}
 
 -- An accepted call that was lent memory, by its contract.
-pub record MemoryCall (R : Memory → Memory → Reply → Type 0) : Type 0 where
+pub record MemoryCall (R : Memory → Memory → Result ℕ Refusal → Type 0) : Type 0 where
   pub lent : Memory
   pub left : Memory
-  pub answer : Reply
+  pub answer : Result ℕ Refusal
   pub count : ℕ
   pub contract : R lent left answer
   pub taken : reply_of answer ≡ accepted count
@@ -54,7 +55,7 @@ pub data CallOn (w : Word) : Type 0 where
   by_text : (ps : List SignedPower) → w ≡ product_letters ps → TextCall ps → CallOn w
 
 -- The bytes that a call wrote.
-abbrev pub written_by : {R : Memory → Memory → Reply → Type 0} → MemoryCall R → List ℕ
+abbrev pub written_by : {R : Memory → Memory → Result ℕ Refusal → Type 0} → MemoryCall R → List ℕ
 written_by c = take c.count c.left.buffer
 
 -- The record that it wrote.
@@ -66,7 +67,7 @@ record_by (by_text ps e c) = written_by c
 pub record SpellingCall (s : List ℕ) : Type 0 where
   pub lent : List ℕ
   pub left : List ℕ
-  pub answer : Reply
+  pub answer : Result ℕ Refusal
   pub count : ℕ
   pub contract : Spelled s lent left answer
   pub taken : reply_of answer ≡ accepted count
@@ -79,7 +80,7 @@ spelled_by c = take c.count c.left
 pub record PhraseCall (s : List ℕ) : Type 0 where
   pub lent : List ℕ
   pub left : List ℕ
-  pub answer : Reply
+  pub answer : Result ℕ Refusal
   pub count : ℕ
   pub contract : TextWritten s lent left answer
   pub taken : reply_of answer ≡ accepted count
@@ -94,14 +95,14 @@ pub record PairCall (s : List ℕ) : Type 0 where
   pub lent_plus : List ℕ
   pub left_minus : List ℕ
   pub left_plus : List ℕ
-  pub answer : Reply
+  pub answer : Result ℕ Refusal
   pub count : ℕ
   pub contract : Paired s lent_minus lent_plus left_minus left_plus answer
   pub taken : reply_of answer ≡ accepted count
 
 -- An accepted call that answers what is counted of a record's form.
 pub record MeasureCall (measure : Form → ℕ) (s : List ℕ) : Type 0 where
-  pub answer : Reply
+  pub answer : Result ℕ Refusal
   pub count : ℕ
   pub contract : Measured measure s answer
   pub taken : reply_of answer ≡ accepted count
@@ -120,12 +121,12 @@ pub record TwoWordCall (u v : List ℕ) : Type 0 where
   pub left1 : Memory
   pub lent2 : Memory
   pub left2 : Memory
-  pub answer : Comparison
+  pub answer : Result Comparison RefusedWord
   pub contract : Compared u lent1 left1 v lent2 left2 answer
   pub taken : Answered (decision_of answer)
 
 -- An accepted call of an export that was lent memory: its refusal is 0.
-pub record ExportedMemoryCall (R : Memory → Memory → Reply → Type 0) : Type 0 where
+pub record ExportedMemoryCall (R : Memory → Memory → Result ℕ Refusal → Type 0) : Type 0 where
   pub lent : Memory
   pub left : Memory
   pub answer : Answer

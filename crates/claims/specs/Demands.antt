@@ -36,10 +36,10 @@
 --     CallOn w, record_by f       one of both, on the word w; the record that it wrote            claims, Calls
 --     SpellingCall, PhraseCall, PairCall, LengthCall, LabelLengthCall s, of a record              claims, Calls
 --     TwoWordCall u v, ExportedCall w    of two words; of an export                               claims, Calls
---     Reply, Verdict              answer types; reply_of, verdict_of: their outcomes              refusals, Outcomes
---     Comparison, decision_of     the answer on two words; its verdict, or a refused word       comparisons, Comparing
---     Entered, number_of_entered  the answer on a filing; its outcome, with the entry's number    updates, Entering
---     NodeEnd, node_end_of        the answer that is a node; its outcome                          packed, Answers
+--     reply_of, verdict_of        outcomes of the answers: a number or nothing, or a refusal      refusals, Outcomes
+--     decision_of                 of the answer on two words: the verdict, or a refused word    comparisons, Comparing
+--     number_of_entered           of the answer on a filing: the entry's number, or a refusal     updates, Entering
+--     node_end_of                 of the answer that is a node                                    packed, Answers
 -- On the right sides:
 --     Refuses o R                 each refusal is the outcome o just when R holds of it           claims, Answers
 --     RefusesWords d R S          the same of two words                                           claims, Answers
@@ -62,15 +62,15 @@
 --     Joined w x                  a chain of steps, each with one of eight strings, joins w to x  group, Chains
 --     A ↔ B, A × B                just when, and; (x : A) × B: there is an x; A → ⊥: not A        mathlib, Core/Logic
 -- Assumes nothing.
-use Rattle.std.specs.Prelude.{◌≡◌, List, ◌↔◌, ℕ, length}
+use Rattle.std.specs.Prelude.{◌≡◌, List, ◌↔◌, ℕ, length, ⊤, Result}
+use Rattle.refusals.specs.declared.Refusal.{Refusal}
+use Rattle.refusals.specs.declared.NodeNumber.{NodeNumber}
 use Rattle.group.specs.Letters.{Word}
 use Rattle.group.specs.Bytes.{bytes_of}
 use Rattle.group.specs.Chains.{Joined}
 use Rattle.group.specs.Forms.{Form}
 use Rattle.group.specs.Powers.{SignedPower}
 use Rattle.refusals.specs.Outcomes.{accepted, verdict_of, reply_of}
-use Rattle.refusals.specs.declared.Verdict.{Verdict}
-use Rattle.refusals.specs.declared.Reply.{Reply}
 use Rattle.refusals.specs.Memory.{Memory}
 use Rattle.refusals.specs.Placing.{Placed}
 use Rattle.records.specs.Format.{IsRecord}
@@ -85,11 +85,11 @@ use Rattle.notation.specs.Promises.{TextRecorded, TextWritten}
 use Rattle.words.specs.Recording.{Recorded}
 use Rattle.comparisons.specs.Comparing.{Compared, decision_of}
 use Rattle.comparisons.specs.declared.Comparison.{Comparison}
+use Rattle.comparisons.specs.declared.RefusedWord.{RefusedWord}
 use Rattle.wordlists.specs.Listing.{Listed}
 use Rattle.packed.specs.Packing.{carets_before_value}
 use Rattle.packed.specs.Answers.{node_end_of}
 use Rattle.packed.specs.Promises.{packing, unpacking, growing, Repacked, AnswersNode}
-use Rattle.packed.specs.declared.NodeEnd.{NodeEnd}
 use Rattle.registers.specs.Answers.{RegisterChecked}
 use Rattle.updates.specs.Entering.{number_of_entered, EnteredWord}
 use Rattle.updates.specs.declared.Entered.{Entered}
@@ -111,47 +111,51 @@ use Rattle.claims.specs.Packed.{PackRefusal, UnpackRefusal, NodeRefusal, GrowRef
 -- just the records of forms. A register is checked, a word filed, a list taken and a shape packed, unpacked, asked of a
 -- node or grown by the same sentence.
 pub record Demand1 : Type 0 where
-  pub word_to_record_lem : (u : List ℕ) (m m' : Memory) (r : Reply) → Recorded u m m' r
+  pub word_to_record_lem : (u : List ℕ) (m m' : Memory) (r : Result ℕ Refusal) → Recorded u m m' r
       → Refuses (reply_of r) (WordRefusal u m) × (IsRefused (reply_of r) → m' ≡ m)
-  pub check_record_lem : (s : List ℕ) (r : Verdict) → Checked s r → Refuses (verdict_of r) (RecordRefusal s)
-  pub record_to_tree_pair_lem : (s p q p' q' : List ℕ) (r : Reply) → Paired s p q p' q' r
+  pub check_record_lem : (s : List ℕ) (r : Result ⊤ Refusal) → Checked s r → Refuses (verdict_of r) (RecordRefusal s)
+  pub record_to_tree_pair_lem : (s p q p' q' : List ℕ) (r : Result ℕ Refusal) → Paired s p q p' q' r
       → Refuses (reply_of r) (PairRefusal s (length p) (length q))
       × (IsRefused (reply_of r) → (p' ≡ p) × (q' ≡ q))
-  pub record_to_length_lem : (s : List ℕ) (r : Reply) → Measured form_length s r
+  pub record_to_length_lem : (s : List ℕ) (r : Result ℕ Refusal) → Measured form_length s r
       → Refuses (reply_of r) (RecordRefusal s)
-  pub record_to_label_length_lem : (s : List ℕ) (r : Reply) → Measured label_sum s r
+  pub record_to_label_length_lem : (s : List ℕ) (r : Result ℕ Refusal) → Measured label_sum s r
       → Refuses (reply_of r) (RecordRefusal s)
-  pub record_to_word_lem : (s t t' : List ℕ) (r : Reply) → Spelled s t t' r
+  pub record_to_word_lem : (s t t' : List ℕ) (r : Result ℕ Refusal) → Spelled s t t' r
       → Refuses (reply_of r) (SpellingRefusal s (length t)) × (IsRefused (reply_of r) → t' ≡ t)
-  pub same_element_lem : (u v : List ℕ) (m m' k k' : Memory) (r : Comparison) → Compared u m m' v k k' r
+  pub same_element_lem : (u v : List ℕ) (m m' k k' : Memory) (r : Result Comparison RefusedWord)
+      → Compared u m m' v k k' r
       → RefusesWords (decision_of r) (WordRefusal u m) (WordRefusal v k)
       × (WordRefused (decision_of r) → (m' ≡ m) × (k' ≡ k))
   pub accepted_word : (u : List ℕ) (m : Memory) → NoWordRefusal u m ↔ None (WordRefusal u m)
-  pub accepted_record : (s : List ℕ) (r : Verdict) → Checked s r
+  pub accepted_record : (s : List ℕ) (r : Result ⊤ Refusal) → Checked s r
       → (verdict_of r ≡ accepted 0) ↔ ((f : Form) × IsRecord s f)
-  pub text_to_record_lem : (t : List ℕ) (m m' : Memory) (r : Reply) → TextRecorded t m m' r
+  pub text_to_record_lem : (t : List ℕ) (m m' : Memory) (r : Result ℕ Refusal) → TextRecorded t m m' r
       → Refuses (reply_of r) (TextRefusal t m) × (IsRefused (reply_of r) → m' ≡ m)
-  pub record_to_text_lem : (s t t' : List ℕ) (r : Reply) → TextWritten s t t' r
+  pub record_to_text_lem : (s t t' : List ℕ) (r : Result ℕ Refusal) → TextWritten s t t' r
       → Refuses (reply_of r) (PhraseRefusal s (length t)) × (IsRefused (reply_of r) → t' ≡ t)
   pub accepted_text : (t : List ℕ) (m : Memory) → NoTextRefusal t m ↔ None (TextRefusal t m)
-  pub check_register_lem : (s : List ℕ) (r : Verdict) → RegisterChecked s r → Refuses (verdict_of r) (RegisterRefusal s)
-  pub enter_word_lem : (u : List ℕ) (m m' : Memory) (h : ℕ) (s s' : List ℕ) (r : Entered) → EnteredWord u m m' h s s' r
+  pub check_register_lem : (s : List ℕ) (r : Result ⊤ Refusal) → RegisterChecked s r
+      → Refuses (verdict_of r) (RegisterRefusal s)
+  pub enter_word_lem : (u : List ℕ) (m m' : Memory) (h : ℕ) (s s' : List ℕ) (r : Result Entered Refusal)
+      → EnteredWord u m m' h s s' r
       → Refuses (number_of_entered r) (EnterRefusal u m h s)
       × (IsRefused (number_of_entered r) → (m' ≡ m) × (s' ≡ s))
-  pub list_to_records_lem : (list : List ℕ) (m m' : Memory) (r : Reply) → Listed list m m' r
+  pub list_to_records_lem : (list : List ℕ) (m m' : Memory) (r : Result ℕ Refusal) → Listed list m m' r
       → Refuses (reply_of r) (ListRefusal list m) × (IsRefused (reply_of r) → m' ≡ m)
-  pub pack_shape_lem : (s xs ys xs' ys' : List ℕ) (r : Reply) → Repacked (packing s xs ys) xs ys xs' ys' r
+  pub pack_shape_lem : (s xs ys xs' ys' : List ℕ) (r : Result ℕ Refusal) → Repacked (packing s xs ys) xs ys xs' ys' r
       → Refuses (reply_of r) (PackRefusal s (length xs) (length ys))
       × (IsRefused (reply_of r) → (xs' ≡ xs) × (ys' ≡ ys))
-  pub unpack_shape_lem : (xs ys s s' : List ℕ) (r : Reply) → Placed (unpacking xs ys s) s s' r
+  pub unpack_shape_lem : (xs ys s s' : List ℕ) (r : Result ℕ Refusal) → Placed (unpacking xs ys s) s s' r
       → Refuses (reply_of r) (UnpackRefusal xs ys (length s)) × (IsRefused (reply_of r) → s' ≡ s)
-  pub carets_before_lem : (xs ys : List ℕ) (k : ℕ) (r : Reply)
+  pub carets_before_lem : (xs ys : List ℕ) (k : ℕ) (r : Result ℕ Refusal)
       → AnswersNode (λ s. carets_before_value s k) xs ys k (reply_of r)
       → Refuses (reply_of r) (NodeRefusal xs ys k)
-  pub subtree_end_lem : (xs ys : List ℕ) (k : ℕ) (r : NodeEnd)
+  pub subtree_end_lem : (xs ys : List ℕ) (k : ℕ) (r : Result NodeNumber Refusal)
       → AnswersNode (λ s. subtree_end_value s k) xs ys k (node_end_of r)
       → Refuses (node_end_of r) (NodeRefusal xs ys k)
-  pub grow_caret_lem : (xs ys xs' ys' : List ℕ) (k : ℕ) (r : Reply) → Repacked (growing xs ys k) xs ys xs' ys' r
+  pub grow_caret_lem : (xs ys xs' ys' : List ℕ) (k : ℕ) (r : Result ℕ Refusal)
+      → Repacked (growing xs ys k) xs ys xs' ys' r
       → Refuses (reply_of r) (GrowRefusal xs ys k) × (IsRefused (reply_of r) → (xs' ≡ xs) × (ys' ≡ ys))
 
 -- Demand 2: the bytes of an accepted word are those of one word, and its record has that word's map. A record gives the
@@ -161,14 +165,15 @@ pub record Demand1 : Type 0 where
 -- text of one list of powers, and its record has the map of their letters. The text that is written for a record is
 -- accepted where tables and buffer are long enough, with that record again.
 pub record Demand2 : Type 0 where
-  pub is_word : (u : List ℕ) (m m' : Memory) (r : Reply) (n : ℕ) → Recorded u m m' r → reply_of r ≡ accepted n
+  pub is_word : (u : List ℕ) (m m' : Memory) (r : Result ℕ Refusal) (n : ℕ) → Recorded u m m' r
+      → reply_of r ≡ accepted n
       → (w : Word) × (u ≡ bytes_of w)
   pub keeps_map : (w : Word) (f : WordCall w) → RecordOfWord f.lent f.left f.count w
   pub gives_pair : (s : List ℕ) (f : PairCall s)
       → PairOfRecord s f.lent_minus f.lent_plus f.left_minus f.left_plus f.count
   pub gives_length : (s : List ℕ) (f : LengthCall s) → LengthOfRecord s f.count
   pub gives_label_length : (s : List ℕ) (f : LabelLengthCall s) → LengthOfRecord s f.count
-  pub gives_word : (s t t' : List ℕ) (r : Reply) → Spelled s t t' r → None (RecordRefusal s)
+  pub gives_word : (s t t' : List ℕ) (r : Result ℕ Refusal) → Spelled s t t' r → None (RecordRefusal s)
       → WordOfRecord s t t' (reply_of r)
   pub joined : (w x : Word) (f : CallOn w) (g : SpellingCall (record_by f)) → spelled_by g ≡ bytes_of x → Joined x w
   pub accepted_again : (s : List ℕ) (g : SpellingCall s) (m : Memory) → (ShortTable (spelled_by g) m → ⊥)
@@ -176,8 +181,10 @@ pub record Demand2 : Type 0 where
   pub record_again : (s : List ℕ) (g : SpellingCall s) (x : Word) (f : CallOn x) → spelled_by g ≡ bytes_of x
       → record_by f ≡ s
   pub leaves_both : (u v : List ℕ) (f : TwoWordCall u v)
-      → ((r : Reply) × Recorded u f.lent1 f.left1 r) × ((r : Reply) × Recorded v f.lent2 f.left2 r)
-  pub is_text : (t : List ℕ) (m m' : Memory) (r : Reply) (n : ℕ) → TextRecorded t m m' r → reply_of r ≡ accepted n
+      → ((r : Result ℕ Refusal) × Recorded u f.lent1 f.left1 r)
+      × ((r : Result ℕ Refusal) × Recorded v f.lent2 f.left2 r)
+  pub is_text : (t : List ℕ) (m m' : Memory) (r : Result ℕ Refusal) (n : ℕ) → TextRecorded t m m' r
+      → reply_of r ≡ accepted n
       → (ps : List SignedPower) × AllInRange ps × (t ≡ text_of ps)
   pub one_list : (ps qs : List SignedPower) → text_of ps ≡ text_of qs → ps ≡ qs
   pub text_keeps_map : (ps : List SignedPower) (f : TextCall ps) → RecordOfText f.lent f.left f.count ps

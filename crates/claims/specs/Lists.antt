@@ -25,6 +25,8 @@
 --     bytes_of w, Joined w x  the bytes of a word; a chain joins two words                group, Bytes, Chains
 -- Assumes nothing.
 use Rattle.std.specs.Prelude.{◌≡◌, List, [], ◌∷◌, ◌++◌, ◌⊎◌, ◌↔◌, ℕ, ◌+◌, ◌*◌, ◌<◌, ◌≤◌, length, take, drop, get_or}
+use Rattle.std.specs.Prelude.{Result}
+use Rattle.refusals.specs.declared.Refusal.{Refusal}
 use Rattle.lists.specs.Entries.{At}
 use Rattle.lines.specs.Lines.{lines_of, line_bytes}
 use Rattle.group.specs.Letters.{Word}
@@ -34,7 +36,6 @@ use Rattle.group.specs.Forms.{b_side, a_side, exponent}
 use Rattle.group.specs.Products.{form_of}
 use Rattle.group.specs.Limits.{limit}
 use Rattle.refusals.specs.Outcomes.{Outcome, accepted, refused, reply_of}
-use Rattle.refusals.specs.declared.Reply.{Reply}
 use Rattle.refusals.specs.Memory.{Memory}
 use Rattle.fields.specs.Fields.{two_bytes, field}
 use Rattle.records.specs.Format.{base_size, buffer_size}
@@ -59,7 +60,7 @@ pub record LineCall : Type 0 where
   pub line : List ℕ
   pub lent : Memory
   pub left : Memory
-  pub answer : Reply
+  pub answer : Result ℕ Refusal
   pub called : Recorded line lent left answer
   pub roomy : buffer_size (length line) ≤ length lent.buffer
 
@@ -105,7 +106,7 @@ pub record SameAsCalls (m m' : Memory) (n : ℕ) (cs : List LineCall) (b' a' : L
 -- another."
 abbrev pub ListIsCalls : Type 0
 ListIsCalls =
-    (list : List ℕ) (m m' : Memory) (r : Reply) (n : ℕ) → Listed list m m' r → reply_of r ≡ accepted n
+    (list : List ℕ) (m m' : Memory) (r : Result ℕ Refusal) (n : ℕ) → Listed list m m' r → reply_of r ≡ accepted n
     → (cs : List LineCall) (b' a' : List ℕ) → lines_called cs ≡ lines_of list → CallsFrom cs m.b m.a b' a'
     → SameAsCalls m m' n cs b' a'
 
@@ -130,7 +131,7 @@ pub record EntryBehind (ls : List (List ℕ)) (m m' : Memory) (i : ℕ) : Type 0
 -- The same of every accepted list call and every entry.
 abbrev pub LastWordFills : Type 0
 LastWordFills =
-    (list : List ℕ) (m m' : Memory) (r : Reply) (n : ℕ) → Listed list m m' r → reply_of r ≡ accepted n
+    (list : List ℕ) (m m' : Memory) (r : Result ℕ Refusal) (n : ℕ) → Listed list m m' r → reply_of r ≡ accepted n
     → (i : ℕ) → EntryBehind (lines_of list) m m' i
 
 -- The bytes at the place of the item of a line l that stands behind other lines.

@@ -28,11 +28,12 @@
 --     max_carets              8,193, the bound                                        trees, Pairs
 --     total s                 the sum of a list, of a shape its carets                lists, Entries
 -- Assumes nothing.
-use Rattle.std.specs.Prelude.{◌≡◌, List, ◌++◌, ◌⊎◌, ◌↔◌, ℕ, suc, ◌+◌, ◌*◌, ◌<◌, ◌≤◌, length, take, drop}
+use Rattle.std.specs.Prelude.{◌≡◌, List, ◌++◌, ◌⊎◌, ◌↔◌, ℕ, suc, ◌+◌, ◌*◌, ◌<◌, ◌≤◌, length, take, drop, Result}
+use Rattle.refusals.specs.declared.Refusal.{Refusal}
+use Rattle.refusals.specs.declared.NodeNumber.{NodeNumber}
 use Rattle.lists.specs.Entries.{total}
 use Rattle.refusals.specs.Outcomes.{accepted, reply_of}
 use Rattle.refusals.specs.Placing.{Placed}
-use Rattle.refusals.specs.declared.Reply.{Reply}
 use Rattle.trees.specs.Trees.{Tree, carets, Address, IsLeaf, Subtree}
 use Rattle.trees.specs.Shapes.{shape, Node, subtree_end_value}
 use Rattle.trees.specs.Pairs.{max_carets}
@@ -41,7 +42,6 @@ use Rattle.packed.specs.Packing.{Packs, carets_before_value, packed_shape}
 use Rattle.packed.specs.Growing.{grown, grow_at}
 use Rattle.packed.specs.Answers.{node_end_of}
 use Rattle.packed.specs.Promises.{packing, unpacking, growing, Repacked, AnswersNode}
-use Rattle.packed.specs.declared.NodeEnd.{NodeEnd}
 
 -- The bytes are the shape of the tree t, which is within the bound.
 pub record IsShape (t : Tree) (bytes : List ℕ) : Type 0 where
@@ -131,27 +131,29 @@ GrowGiven xs ys xs' ys' k n =
 
 -- Each call gives this where it is not refused.
 pub record ShapesGiven : Type 0 where
-  pub pack_shape_lem : (s xs ys xs' ys' : List ℕ) (r : Reply) (n : ℕ) → Repacked (packing s xs ys) xs ys xs' ys' r
+  pub pack_shape_lem : (s xs ys xs' ys' : List ℕ) (r : Result ℕ Refusal) (n : ℕ)
+      → Repacked (packing s xs ys) xs ys xs' ys' r
       → reply_of r ≡ accepted n → PackGiven s xs ys xs' ys' n
-  pub unpack_shape_lem : (xs ys out out' : List ℕ) (r : Reply) (n : ℕ) → Placed (unpacking xs ys out) out out' r
+  pub unpack_shape_lem : (xs ys out out' : List ℕ) (r : Result ℕ Refusal) (n : ℕ)
+      → Placed (unpacking xs ys out) out out' r
       → reply_of r ≡ accepted n → UnpackGiven xs ys out out' n
-  pub carets_before_lem : (xs ys : List ℕ) (k : ℕ) (r : Reply) (n : ℕ)
+  pub carets_before_lem : (xs ys : List ℕ) (k : ℕ) (r : Result ℕ Refusal) (n : ℕ)
       → AnswersNode (λ s. carets_before_value s k) xs ys k (reply_of r) → reply_of r ≡ accepted n
       → CaretsGiven xs ys k n
-  pub subtree_end_lem : (xs ys : List ℕ) (k : ℕ) (r : NodeEnd) (n : ℕ)
+  pub subtree_end_lem : (xs ys : List ℕ) (k : ℕ) (r : Result NodeNumber Refusal) (n : ℕ)
       → AnswersNode (λ s. subtree_end_value s k) xs ys k (node_end_of r) → node_end_of r ≡ accepted n
       → EndGiven xs ys k n
-  pub grow_caret_lem : (xs ys xs' ys' : List ℕ) (k : ℕ) (r : Reply) (n : ℕ)
+  pub grow_caret_lem : (xs ys xs' ys' : List ℕ) (k : ℕ) (r : Result ℕ Refusal) (n : ℕ)
       → Repacked (growing xs ys k) xs ys xs' ys' r → reply_of r ≡ accepted n → GrowGiven xs ys xs' ys' k n
 
 -- "Packing and unpacking undo each other": where there is room, what was packed is unpacked as it was, and what was
 -- unpacked is packed into the numbers and the summary that it came from.
 pub record PackUnpack : Type 0 where
-  pub unpack_packed : (s xs ys xs' ys' out out' : List ℕ) (r q : Reply) (n : ℕ)
+  pub unpack_packed : (s xs ys xs' ys' out out' : List ℕ) (r q : Result ℕ Refusal) (n : ℕ)
       → Repacked (packing s xs ys) xs ys xs' ys' r → reply_of r ≡ accepted n
       → Placed (unpacking xs' ys' out) out out' q → length s ≤ length out
       → (reply_of q ≡ accepted (length s)) × (take (length s) out' ≡ s)
-  pub pack_unpacked : (xs ys out out' zs ws zs' ws' : List ℕ) (q r : Reply) (m : ℕ)
+  pub pack_unpacked : (xs ys out out' zs ws zs' ws' : List ℕ) (q r : Result ℕ Refusal) (m : ℕ)
       → Placed (unpacking xs ys out) out out' q → reply_of q ≡ accepted m
       → Repacked (packing (take m out') zs ws) zs ws zs' ws' r
       → numbers_of_value m ≤ length zs → numbers_of_value m ≤ length ws
@@ -171,7 +173,7 @@ pub record PackedIsTree : Type 0 where
 pub record GrownIsPacked : Type 0 where
   pub shape_grown : (t : Tree) (k : ℕ) (u : Address) → IsLeaf t k u → grow_at (shape t) k ≡ shape (grown t u)
   pub one_caret_more : (t : Tree) (k : ℕ) (u : Address) → IsLeaf t k u → carets (grown t u) ≡ suc (carets t)
-  pub as_packed : (t : Tree) (k : ℕ) (u : Address) (xs ys xs' ys' zs ws : List ℕ) (r q : Reply)
+  pub as_packed : (t : Tree) (k : ℕ) (u : Address) (xs ys xs' ys' zs ws : List ℕ) (r q : Result ℕ Refusal)
       → IsPacked t xs ys → IsLeaf t k u
       → Repacked (growing xs ys k) xs ys xs' ys' r
       → Repacked (packing (shape (grown t u)) xs ys) xs ys zs ws q
@@ -180,11 +182,11 @@ pub record GrownIsPacked : Type 0 where
 -- "Both answers are defined by the byte shape": the carets among the bytes before node k, and the number just behind
 -- the last node of its subtree.
 pub record BothByShape : Type 0 where
-  pub carets_before_lem : (t : Tree) (k : ℕ) (xs ys : List ℕ) (r : Reply)
+  pub carets_before_lem : (t : Tree) (k : ℕ) (xs ys : List ℕ) (r : Result ℕ Refusal)
       → IsPacked t xs ys → k < length (shape t)
       → AnswersNode (λ s. carets_before_value s k) xs ys k (reply_of r)
       → reply_of r ≡ accepted (total (take k (shape t)))
-  pub ends : (t : Tree) (k : ℕ) (u : Address) (x : Tree) (xs ys : List ℕ) (e : ℕ) (r : NodeEnd)
+  pub ends : (t : Tree) (k : ℕ) (u : Address) (x : Tree) (xs ys : List ℕ) (e : ℕ) (r : Result NodeNumber Refusal)
       → IsPacked t xs ys → Node t k u → Subtree t u x
       → AnswersNode (λ s. subtree_end_value s k) xs ys k (node_end_of r) → node_end_of r ≡ accepted e
       → (j : ℕ) → ((v : Address) × Node t j (u ++ v)) ↔ ((k ≤ j) × (j < e))

@@ -7,18 +7,17 @@
 --     Begun, ServedPart, Finished   the contracts of begin, serve and finish                    receipts, Promises
 --     serving_of, reply_of the answers as accepted or refused            receipts, Promises; refusals, Outcomes
 -- Assumes nothing.
-use Rattle.std.specs.Prelude.{◌≡◌, List, [], ◌∷◌, ◌++◌, ◌⊎◌, ℕ, ◌+◌, ◌<◌, ◌≤◌, ◌^◌, length, take}
+use Rattle.std.specs.Prelude.{◌≡◌, List, [], ◌∷◌, ◌++◌, ◌⊎◌, ℕ, ◌+◌, ◌<◌, ◌≤◌, ◌^◌, length, take, Result}
+use Rattle.refusals.specs.declared.Refusal.{Refusal}
 use Rattle.lists.specs.Entries.{At}
 use Rattle.group.specs.Limits.{limit}
 use Rattle.refusals.specs.Outcomes.{accepted, reply_of}
-use Rattle.refusals.specs.declared.Reply.{Reply}
 use Rattle.lines.specs.Lines.{line_feed, lines_of, join_lines, cut_to, whole_of}
 use Rattle.lines.specs.Feeding.{meet_lines, met_in}
 use Rattle.rows.specs.Receipts.{receipt_of, receipts_from, output_of}
 use Rattle.receipts.specs.Serving.{served}
 use Rattle.receipts.specs.Promises.{Begun, ServedPart, Finished, serving_of}
 use Rattle.receipts.specs.declared.Served.{Served}
-use Rattle.receipts.specs.declared.Serving.{Serving}
 
 -- The lines of bytes hold no line feed; each ended by one, they are the bytes, or the bytes with one more line feed
 -- behind them, where the last line is not empty and has no end.
@@ -53,7 +52,7 @@ pub record ServeCall (part : List ℕ) (number held : ℕ) (line : List ℕ) (s 
     : Type 0 where
   pub out : List ℕ
   pub out' : List ℕ
-  pub answer : Serving
+  pub answer : Result Served Refusal
   pub contract : ServedPart part number held line out line' out' answer
   pub taken : serving_of answer ≡ accepted s
   pub wrote : bytes ≡ take s.written out'
@@ -62,7 +61,7 @@ pub record ServeCall (part : List ℕ) (number held : ℕ) (line : List ℕ) (s 
 pub record FinishCall (number held : ℕ) (line bytes : List ℕ) : Type 0 where
   pub out : List ℕ
   pub out' : List ℕ
-  pub answer : Reply
+  pub answer : Result ℕ Refusal
   pub count : ℕ
   pub contract : Finished number held line out out' answer
   pub taken : reply_of answer ≡ accepted count
@@ -81,7 +80,7 @@ CallsOfRun (part ∷ parts) number held line bytes =
 -- a run write are the output for the whole input.
 abbrev pub ReceiptsOfInput : Type 0
 ReceiptsOfInput =
-    (parts : List (List ℕ)) (line out out' bytes : List ℕ) (r : Reply) (n : ℕ)
+    (parts : List (List ℕ)) (line out out' bytes : List ℕ) (r : Result ℕ Refusal) (n : ℕ)
     → length line ≡ limit + 1 → length (whole_of parts) < 2 ^ 64
     → Begun out out' r → reply_of r ≡ accepted n → CallsOfRun parts 1 0 line bytes
     → take n out' ++ bytes ≡ output_of (whole_of parts)

@@ -34,12 +34,13 @@
 --     RecordOfWord m m' n w   what word to record leaves of tables and buffer       claims, Given
 -- Assumes nothing.
 use Rattle.std.specs.Prelude.{◌≡◌, true, false, List, ◌∷◌, ◌++◌, ◌⊎◌, ◌↔◌, ℕ, ◌+◌, ◌<◌, ◌≤◌, length, take, drop, get_or}
+use Rattle.std.specs.Prelude.{⊤, Result}
+use Rattle.refusals.specs.declared.Refusal.{Refusal}
 use Rattle.lists.specs.Entries.{At}
 use Rattle.group.specs.Letters.{Word}
 use Rattle.group.specs.Bytes.{bytes_of}
 use Rattle.group.specs.Forms.{Form, letters}
 use Rattle.refusals.specs.Outcomes.{accepted, verdict_of}
-use Rattle.refusals.specs.declared.Verdict.{Verdict}
 use Rattle.refusals.specs.Memory.{Memory}
 use Rattle.fields.specs.Fields.{four_bytes, head_size}
 use Rattle.records.specs.Format.{encode, IsRecord}
@@ -69,10 +70,12 @@ pub record RegisterRefusal (s : List ℕ) (number place : ℕ) : Type 0 where
 -- What is read of the bytes handed to a call is what is well-formed there: one register, or none. There `find`, which
 -- looks at any bytes, finds the entry with a form's record.
 pub record RegistersAreRead : Type 0 where
-  pub read_just_when : (s : List ℕ) (v : Verdict) → RegisterChecked s v → (q : Register)
+  pub read_just_when : (s : List ℕ) (v : Result ⊤ Refusal) → RegisterChecked s v → (q : Register)
       → (read_register s ≡ accepted q) ↔ WellFormed s q
-  pub accepted_just_when : (s : List ℕ) (v : Verdict) → RegisterChecked s v → (verdict_of v ≡ accepted 0) ↔ IsRegister s
-  pub found_there : (s : List ℕ) (v : Verdict) → RegisterChecked s v → (q : Register) → WellFormed s q → (f : Form)
+  pub accepted_just_when : (s : List ℕ) (v : Result ⊤ Refusal) → RegisterChecked s v
+      → (verdict_of v ≡ accepted 0) ↔ IsRegister s
+  pub found_there : (s : List ℕ) (v : Result ⊤ Refusal) → RegisterChecked s v → (q : Register) → WellFormed s q
+      → (f : Form)
       → found s (encode f) ≡ number_for f q.entries
 
 -- An entry of the register, with the number k, holds the element of the word or of its inverse.
@@ -129,7 +132,8 @@ pub record EnteredAs (u : List ℕ) (m m' : Memory) (h : ℕ) (s s' : List ℕ) 
 
 abbrev pub EntersWords : Type 0
 EntersWords =
-    (u : List ℕ) (m m' : Memory) (h : ℕ) (s s' : List ℕ) (r : Entered) (x : Answer) → EnteredWord u m m' h s s' r
+    (u : List ℕ) (m m' : Memory) (h : ℕ) (s s' : List ℕ) (r : Result Entered Refusal) (x : Answer)
+    → EnteredWord u m m' h s s' r
     → entered_of r ≡ accepted x → EnteredAs u m m' h s s' x.reply
 
 -- The bytes that a new entry with the number k changes, where the entries end at `end` and its record are the bytes b:
@@ -148,7 +152,8 @@ pub record OnlyNew (s s' : List ℕ) (k h end : ℕ) (b : List ℕ) : Type 0 whe
 -- "no other byte but the first field's changes".
 abbrev pub OnlyNewBytes : Type 0
 OnlyNewBytes =
-    (u : List ℕ) (m m' : Memory) (h : ℕ) (s s' : List ℕ) (r : Entered) (x : Answer) (k : ℕ) (w : Word) (q : Register)
+    (u : List ℕ) (m m' : Memory) (h : ℕ) (s s' : List ℕ) (r : Result Entered Refusal) (x : Answer) (k : ℕ) (w : Word)
+    (q : Register)
     → EnteredWord u m m' h s s' r → entered_of r ≡ accepted x → x.reply ≡ new_entry k → u ≡ bytes_of w → WellFormed s q
     → OnlyNew s s' k h (length (register_bytes q)) (encode (stored_form w))
 
@@ -168,7 +173,8 @@ pub record StoredSmaller (m m' : Memory) (s' : List ℕ) (end : ℕ) (w : Word) 
 
 abbrev pub StoredIsSmaller : Type 0
 StoredIsSmaller =
-    (u : List ℕ) (m m' : Memory) (h : ℕ) (s s' : List ℕ) (r : Entered) (x : Answer) (k : ℕ) (w : Word) (q : Register)
+    (u : List ℕ) (m m' : Memory) (h : ℕ) (s s' : List ℕ) (r : Result Entered Refusal) (x : Answer) (k : ℕ) (w : Word)
+    (q : Register)
     → EnteredWord u m m' h s s' r → entered_of r ≡ accepted x → x.reply ≡ new_entry k → u ≡ bytes_of w → WellFormed s q
     → StoredSmaller m m' s' (length (register_bytes q)) w
 
@@ -200,5 +206,6 @@ pub record Charged (h : ℕ) (s s' : List ℕ) (x : Answer) : Type 0 where
 
 abbrev pub Charges : Type 0
 Charges =
-    (u : List ℕ) (m m' : Memory) (h : ℕ) (s s' : List ℕ) (r : Entered) (x : Answer) → EnteredWord u m m' h s s' r
+    (u : List ℕ) (m m' : Memory) (h : ℕ) (s s' : List ℕ) (r : Result Entered Refusal) (x : Answer)
+    → EnteredWord u m m' h s s' r
     → entered_of r ≡ accepted x → Charged h s s' x

@@ -1,6 +1,6 @@
 -- The loop over the indices: the reduced form's clause, tested on two tables that show a form. Assumes nothing.
-use mathlib.Core.Path.{◌≡◌, refl, sym, ap, subst, ◌∙◌}
-use mathlib.Core.Bool.{Bool, true, false, cond, true≢false}
+use mathlib.Core.Path.{◌≡◌, refl, sym, ap, ◌∙◌}
+use mathlib.Core.Bool.{Bool, true, false, cond, ◌||◌, true≢false}
 use mathlib.Core.List.{List}
 use Prim.Native.Nat.{ℕ, zero, suc, ◌+◌, ◌-◌, ◌<◌, ◌≤◌}
 use native.Mathlib.Numerals.{add-one}
@@ -38,10 +38,6 @@ unfolding find_break
 first_none f i zero e = refl
 first_none f i (suc k) e = absurd (omega arith)
 
--- At the start nothing is said.
-pub unbroken_none : (b a : List ℕ) → Unbroken b a 0
-unbroken_none b a = record { goes_on = λ f h. refl }
-
 module _ {b a : List ℕ} {i : ℕ} (h : Unbroken b a i) (f : Form) (sh : Shown f b a) where
   next : i ≤ limit → (t : Bool)
       → t ≡ is_break (get_or b i 0) (get_or a i 0) (get_or b (i + 1) 0) (get_or a (i + 1) 0)
@@ -77,24 +73,16 @@ module _ {b a : List ℕ} {i : ℕ} (h : Unbroken b a i) (f : Form) (sh : Shown 
 pub record SeenSo (b a : List ℕ) (start : ℕ) (found : Bool) (i : ℕ) : Type 0 where
   pub unbroken : found ≡ false → Unbroken b a start → Unbroken b a i
 
-pub seen_none : (b a : List ℕ) (start k i : ℕ) → i ≡ start + k → k ≡ 0 → SeenSo b a start false i
-seen_none b a start k i e z =
-    let same : start ≡ i = omega arith in
-    record { unbroken = λ n u. subst (Unbroken b a) same u }
-
-pub seen_more : {b a : List ℕ} {start : ℕ} {found more : Bool} {i : ℕ} → SeenSo b a start found i → i ≤ limit
-    → more ≡ cond (is_break (get_or b i 0) (get_or a i 0) (get_or b (i + 1) 0) (get_or a (i + 1) 0)) true found
-    → SeenSo b a start more (i + 1)
-seen_more {b} {a} {start} {found} {more} {i} s le e =
-    go (is_break (get_or b i 0) (get_or a i 0) (get_or b (i + 1) 0) (get_or a (i + 1) 0)) refl e
+pub seen_more : {b a : List ℕ} {start : ℕ} {found : Bool} {i : ℕ} (t : Bool) → SeenSo b a start found i → i ≤ limit
+    → t ≡ is_break (get_or b i 0) (get_or a i 0) (get_or b (i + 1) 0) (get_or a (i + 1) 0)
+    → SeenSo b a start (found || t) (i + 1)
+seen_more {b} {a} {start} {found} {i} t s le e = go found t s e
   where
-    go : (t : Bool) → is_break (get_or b i 0) (get_or a i 0) (get_or b (i + 1) 0) (get_or a (i + 1) 0) ≡ t
-        → more ≡ cond t true found → SeenSo b a start more (i + 1)
-    go true q m = record { unbroken = λ k u. absurd (true≢false (sym m ∙ k)) }
-    go false q m = record {
-      unbroken = λ k u. record { goes_on = λ f h. break_later (s.unbroken (sym m ∙ k) u) f h le (sym q) };
+    go : (f q : Bool) → SeenSo b a start f i
+        → q ≡ is_break (get_or b i 0) (get_or a i 0) (get_or b (i + 1) 0) (get_or a (i + 1) 0)
+        → SeenSo b a start (f || q) (i + 1)
+    go true q w d = record { unbroken = λ k u. absurd (true≢false k) }
+    go false true w d = record { unbroken = λ k u. absurd (true≢false k) }
+    go false false w d = record {
+      unbroken = λ k u. record { goes_on = λ f h. break_later (w.unbroken refl u) f h le d };
     }
-
-pub seen_same : {b a : List ℕ} {start : ℕ} {found : Bool} {i j : ℕ} → i ≡ j → SeenSo b a start found i
-    → SeenSo b a start found j
-seen_same {b} {a} {start} {found} e s = subst (SeenSo b a start found) e s

@@ -3,7 +3,7 @@
 
 ghost use Rattle.clause.specs.inside.Tables.{BreakFound, HandedOver};
 
-use refusals::{LIMIT, Refusal, Verdict};
+use refusals::{LIMIT, Refusal};
 
 mod search;
 
@@ -11,10 +11,10 @@ mod search;
 pub const TABLE: usize = LIMIT + 2;
 
 // The entries of a table that are handed over: one for each index up to the limit.
-const HANDED: usize = LIMIT + 1;
+pub const HANDED: usize = LIMIT + 1;
 
 // The smallest index that breaks the clause, if any: block by block, then one by one in the block that has it.
-pub fn check_tables(b: &[u16; TABLE], a: &[u16; TABLE]) -> Verdict
+pub fn check_tables(b: &[u16; TABLE], a: &[u16; TABLE]) -> Result<(), Refusal>
     ensures { BreakFound b.now a.now result }
 {
     let start = search::first_block(b, a);
@@ -27,21 +27,15 @@ pub fn hand_over(
     a: &[u16; TABLE],
     b_table: &mut [u16],
     a_table: &mut [u16],
-) -> Verdict
+) -> Result<(), Refusal>
     ensures { HandedOver b.now a.now b_table.old a_table.old
         b_table.new a_table.new result }
 {
-    let verdict = check_tables(b, a);
-    let Verdict::Accepted = verdict else {
-        return verdict;
-    };
-    if b_table.len() < HANDED {
-        return Verdict::Refused(Refusal::ShortTable);
-    }
-    if a_table.len() < HANDED {
-        return Verdict::Refused(Refusal::ShortTable);
+    check_tables(b, a)?;
+    if b_table.len() < HANDED || a_table.len() < HANDED {
+        return Err(Refusal::ShortTable);
     }
     copying::copy_front(b, b_table, HANDED);
     copying::copy_front(a, a_table, HANDED);
-    Verdict::Accepted
+    Ok(())
 }

@@ -1,82 +1,57 @@
 // The first index that breaks the reduced form's clause, by two tables of exponents.
-ghost use Rattle.std.specs.Prelude.{◌≡◌, true, false, cond, suc, ◌+◌, ◌≤◌, ◌<◌, length};
+ghost use Rattle.std.specs.Prelude.{◌≡◌, false, suc, ◌+◌, ◌≤◌};
 ghost use Rattle.group.specs.Limits.{limit};
 ghost use Rattle.clause.specs.inside.Tables.{is_break, BreakFound, Unbroken};
 
-use refusals::{GeneratorIndex, LIMIT, Refusal, Verdict};
+use crate::{HANDED, TABLE};
+use refusals::{GeneratorIndex, Refusal};
 
-// The indices of a block.
+// The indices of a block, and the whole blocks of the indices up to the limit.
 const BLOCK: usize = 64;
+
+const BLOCKS: usize = HANDED / BLOCK;
 
 // Whether an index breaks the reduced form's clause, by its exponents and those of the next.
 fn breaks(b: u16, a: u16, next_b: u16, next_a: u16) -> bool
     ensures { result ≡ is_break b a next_b next_a }
 {
-    if b == 0 {
-        return false;
-    }
-    if a == 0 {
-        return false;
-    }
-    if next_b != 0 {
-        return false;
-    }
-    next_a == 0
-}
-
-// Whether an index breaks the clause, or one before it does.
-fn or_breaks(found: bool, b: u16, a: u16, next_b: u16, next_a: u16) -> bool
-    ensures { result ≡ cond (is_break b a next_b next_a) true found }
-{
-    if breaks(b, a, next_b, next_a) {
-        return true;
-    }
-    found
+    b != 0 && a != 0 && next_b == 0 && next_a == 0
 }
 
 // Whether some index of a block breaks the clause. The loop has no exit, so that the compiler tests many at once.
-fn block_breaks(b: &[u16], a: &[u16], start: usize) -> bool
-    requires { (suc limit < length b.now) × (suc limit < length a.now) × (start + 64 ≤ suc limit) }
+fn block_breaks(b: &[u16; TABLE], a: &[u16; TABLE], start: usize) -> bool
+    requires { start + 64 ≤ suc limit }
     ensures { result ≡ false → Unbroken b.now a.now start
         → Unbroken b.now a.now (start + 64) }
 {
     let mut found = false;
-    let mut k = 0;
-    while k < BLOCK {
-        let i = start + k;
-        found = or_breaks(found, b[i], a[i], b[i + 1], a[i + 1]);
-        k += 1;
+    for i in start..start + BLOCK {
+        found |= breaks(b[i], a[i], b[i + 1], a[i + 1]);
     }
     found
 }
 
 // Where the first block begins that has an index which breaks the clause; with none, where the last whole block ends.
-pub fn first_block(b: &[u16], a: &[u16]) -> usize
-    requires { (suc limit < length b.now) × (suc limit < length a.now) }
+pub fn first_block(b: &[u16; TABLE], a: &[u16; TABLE]) -> usize
     ensures { (result ≤ suc limit) × Unbroken b.now a.now result }
 {
-    let mut start = 0;
-    while start + BLOCK <= LIMIT + 1 {
-        if block_breaks(b, a, start) {
-            return start;
+    for k in 0..BLOCKS {
+        if block_breaks(b, a, BLOCK * k) {
+            return BLOCK * k;
         }
-        start += BLOCK;
     }
-    start
+    BLOCK * BLOCKS
 }
 
 // The smallest index that breaks the clause, if any, where none below a start does.
-pub fn first_break(b: &[u16], a: &[u16], start: usize) -> Verdict
-    requires limit_in_bounds { (suc limit < length b.now) × (suc limit < length a.now) }
-    requires start_bound { (start ≤ suc limit) × Unbroken b.now a.now start }
+pub fn first_break(b: &[u16; TABLE], a: &[u16; TABLE], start: usize) -> Result<(), Refusal>
+    requires { (start ≤ suc limit) × Unbroken b.now a.now start }
     ensures { BreakFound b.now a.now result }
 {
-    let mut i = start;
-    while i <= LIMIT {
+    for i in start..HANDED {
         if breaks(b[i], a[i], b[i + 1], a[i + 1]) {
-            return Verdict::Refused(Refusal::NotReduced(GeneratorIndex(i as u16)));
+            return Err(Refusal::NotReduced(GeneratorIndex(i as u16)));
         }
-        i += 1;
     }
-    Verdict::Accepted
+    Ok(())
 }

@@ -8,6 +8,7 @@ use borrow.Author.Tests.{ltb-false}
 use lib.Dec.{ltb}
 use lib.ListN.{length, take}
 use lib.Seq.{sets}
+use Rattle.std.specs.Prelude.{Result}
 use Rattle.lists.proofs.Writes.{sets_front}
 use Rattle.numerals.specs.Decimals.{decimal}
 use Rattle.group.specs.Letters.{Word}
@@ -15,21 +16,17 @@ use Rattle.group.proofs.Bytes.{bytes_length}
 use Rattle.group.specs.Bytes.{bytes_of}
 use Rattle.group.specs.Forms.{Form}
 use Rattle.group.specs.Limits.{limit}
-use Rattle.refusals.specs.Outcomes.{Outcome, accepted, refused, after, then, valued, drop_value, verdict_of, reply_of}
-use Rattle.refusals.specs.declared.Reply.{Reply}
-use Rattle.refusals.specs.declared.Reply.TheVariants.{Number, Refused}
+use Rattle.refusals.specs.Outcomes.{Outcome, accepted, refused, after, then, valued, drop_value, reply_of}
 use Rattle.refusals.specs.declared.Refusal.{Refusal}
-use Rattle.refusals.specs.declared.Verdict.{Verdict}
-use Rattle.refusals.specs.declared.Verdict.TheVariants.{Accepted, Refused as NotAccepted}
 use Rattle.refusals.proofs.Outcomes.{accepted_same, accepted_refused, passed}
 use Rattle.records.specs.Reading.{decode}
 use Rattle.pairs.specs.Promises.{Measured}
 use Rattle.spelling.specs.Spelling.{spelling}
 use Rattle.spelling.specs.Promises.{word_in, spelled_in, Spelled}
 use Rattle.notation.specs.Promises.{form_text, text_in, TextWritten}
-use Rattle.commands.specs.Answers.{saying, denying, line_of, said, room_size}
+use Rattle.commands.specs.Answers.{said, room_size}
 use Rattle.commands.specs.Records.{text_of_record}
-use Rattle.commands.specs.inside.Steps.{refusal_of, front_of}
+use Rattle.commands.specs.inside.Steps.{front_of}
 
 -- A number that a call counts: what is said of the number is what is said of the thing counted.
 pub number_said : {A : Type 0} (count : A → ℕ) (o : Outcome A)
@@ -58,42 +55,19 @@ pub said-then : {A : Type 0} (bytes : A → List ℕ) (o : Outcome A)
 said-then bytes (accepted x) = refl
 said-then bytes (refused n p) = refl
 
--- A reply, by its case: the bytes that it counts, or its refusal.
-pub reply_said : (show : List ℕ → List ℕ) {r : Reply} {n : ℕ} {t : List ℕ} (bytes : List ℕ) → r ≡ Number n
-    → t ≡ take n bytes → saying (line_of (show t)) ≡ said show (front_of (reply_of r) bytes)
-reply_said show bytes e f =
-    ap (λ (t : List ℕ). saying (line_of (show t))) f
-    ∙ ap (λ (q : Reply). said show (front_of (reply_of q) bytes)) (sym e)
+-- What stands at the front of a buffer, shown.
+pub shown_front : (show : List ℕ → List ℕ) (o : Outcome ℕ) (bytes : List ℕ)
+    → said (λ n. show (take n bytes)) o ≡ said show (front_of o bytes)
+shown_front show (accepted n) bytes = refl
+shown_front show (refused n p) bytes = refl
 
-pub reply_denied : (show : List ℕ → List ℕ) {r : Reply} {q : Refusal} (bytes : List ℕ) → r ≡ Refused q
-    → denying (refusal_of q) ≡ said show (front_of (reply_of r) bytes)
-reply_denied show bytes e = ap (λ (x : Reply). said show (front_of (reply_of x) bytes)) (sym e)
-
--- A reply that is shown as its number.
-pub count_said : {r : Reply} {n : ℕ} → r ≡ Number n → saying (line_of (decimal n)) ≡ said decimal (reply_of r)
-count_said e = ap (λ (q : Reply). said decimal (reply_of q)) (sym e)
-
-pub count_denied : {r : Reply} {q : Refusal} → r ≡ Refused q → denying (refusal_of q) ≡ said decimal (reply_of r)
-count_denied e = ap (λ (x : Reply). said decimal (reply_of x)) (sym e)
-
--- A verdict, by its case.
-pub verdict_kept : {A : Type 0} (text : List ℕ) {v : Verdict} (o : Outcome A) → verdict_of v ≡ drop_value o
-    → v ≡ Accepted
-    → saying (line_of text) ≡ said (λ x. text) o
-verdict_kept text o h e =
-    ap (λ (x : Verdict). said {A = ℕ} (λ n. text) (verdict_of x)) (sym e)
-    ∙ ap (said {A = ℕ} (λ n. text)) h
-    ∙ verdict_said text o
-
-pub verdict_denied : {A : Type 0} (text : List ℕ) {v : Verdict} {q : Refusal} (o : Outcome A)
-    → verdict_of v ≡ drop_value o → v ≡ NotAccepted q → denying (refusal_of q) ≡ said (λ x. text) o
-verdict_denied text o h e =
-    ap (λ (x : Verdict). said {A = ℕ} (λ n. text) (verdict_of x)) (sym e)
-    ∙ ap (said {A = ℕ} (λ n. text)) h
-    ∙ verdict_said text o
+-- A verdict on a record.
+pub checked_said : {A : Type 0} (text : List ℕ) {v : Outcome ℕ} (o : Outcome A) → v ≡ drop_value o
+    → said {A = ℕ} (λ n. text) v ≡ said (λ x. text) o
+checked_said text o e = ap (said {A = ℕ} (λ n. text)) e ∙ verdict_said text o
 
 -- A count of a record's form.
-pub measure_said : (count : Form → ℕ) {s : List ℕ} {r : Reply} → Measured count s r
+pub measure_said : (count : Form → ℕ) {s : List ℕ} {r : Result ℕ Refusal} → Measured count s r
     → said decimal (reply_of r) ≡ said (λ f. decimal (count f)) (decode s)
 measure_said count {s} m = ap (said decimal) m.result ∙ number_said count (decode s)
 
@@ -115,11 +89,12 @@ spelling-fits s n w e = go (decode s) refl
         absurd (accepted_refused (sym e ∙ ap (λ (x : Outcome Form). then x (λ g. word_in n (spelling g))) d))
 
 -- The word of a record.
-pub spelled_said : {s word word' : List ℕ} {r : Reply} → length word ≡ room_size → Spelled s word word' r
-    → said (λ t. t) (front_of (reply_of r) word') ≡ said bytes_of (spelled_in s room_size)
+pub spelled_said : {s word word' : List ℕ} {r : Result ℕ Refusal} → length word ≡ room_size → Spelled s word word' r
+    → said (λ n. take n word') (reply_of r) ≡ said bytes_of (spelled_in s room_size)
 spelled_said {s} {word} {word'} {r} size h =
     let o = spelled_in s (length word) in
-    ap₂ (λ (x : Outcome ℕ) (y : List ℕ). said (λ t. t) (front_of x y)) h.result h.bytes
+    shown_front (λ t. t) (reply_of r) word'
+    ∙ ap₂ (λ (x : Outcome ℕ) (y : List ℕ). said (λ t. t) (front_of x y)) h.result h.bytes
     ∙ ap (said (λ t. t))
     (front_found bytes_of length o word (λ w e. (bytes_length w, spelling-fits s (length word) w e)))
     ∙ said-then bytes_of o
@@ -144,11 +119,12 @@ text_fits s n t e = go (decode s) refl
     go (refused k p) d = absurd (accepted_refused (sym e ∙ ap (λ (x : Outcome Form). then x beside) d))
 
 -- The text of a record.
-pub text_said : {s out out' : List ℕ} {r : Reply} → length out ≡ room_size → TextWritten s out out' r
-    → said (λ t. t) (front_of (reply_of r) out') ≡ said (λ t. t) (text_of_record s)
+pub text_said : {s out out' : List ℕ} {r : Result ℕ Refusal} → length out ≡ room_size → TextWritten s out out' r
+    → said (λ n. take n out') (reply_of r) ≡ said (λ t. t) (text_of_record s)
 text_said {s} {out} {out'} {r} size h =
     let o = text_in s out in
-    ap₂ (λ (x : Outcome ℕ) (y : List ℕ). said (λ t. t) (front_of x y)) h.placed.result h.placed.bytes
+    shown_front (λ t. t) (reply_of r) out'
+    ∙ ap₂ (λ (x : Outcome ℕ) (y : List ℕ). said (λ t. t) (front_of x y)) h.placed.result h.placed.bytes
     ∙ ap (said (λ t. t)) (front_found (λ t. t) length o out (λ t e. (refl, text_fits s (length out) t e)))
     ∙ said-then (λ t. t) o
     ∙ ap (λ (n : ℕ). said (λ t. t) (text_beside s n)) size

@@ -1,5 +1,6 @@
 -- Laws of the answers, each file after those it cites.
 pub mod Closing
+pub mod Replying
 pub mod ShapeDigits
 pub mod Fronts
 pub mod PairAnswers

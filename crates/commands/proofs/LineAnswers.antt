@@ -2,11 +2,12 @@
 use mathlib.Core.Path.{◌≡◌, refl, sym, ap, ap₂, subst, ◌∙◌}
 use mathlib.Core.Bool.{true, false, cond}
 use mathlib.Core.List.{List, [], ◌∷◌}
-use Prim.Native.Nat.{ℕ, suc, ◌<◌, ◌≤◌}
+use Prim.Native.Nat.{ℕ, suc, ◌/◌, ◌%◌, ◌<◌, ◌≤◌}
 use native.Mathlib.Omega.{arith}
 use borrow.Author.Tests.{ltb-false}
-use lib.Dec.{eqb, ltb}
+use lib.Dec.{ltb}
 use lib.ListN.{length, get_or, take}
+use Rattle.std.specs.Prelude.{Result, Ok, Err}
 use Rattle.group.specs.Letters.{Word}
 use Rattle.group.specs.Limits.{limit}
 use Rattle.group.specs.Products.{form_of}
@@ -19,8 +20,6 @@ use Rattle.fields.specs.Fields.{two_bytes, field}
 use Rattle.refusals.specs.Refusals.{number_of, place_of}
 use Rattle.refusals.specs.Outcomes.{Outcome, accepted, refused, then, reply_of}
 use Rattle.refusals.specs.Memory.{Memory}
-use Rattle.refusals.specs.declared.Reply.{Reply}
-use Rattle.refusals.specs.declared.Reply.TheVariants.{Number, Refused}
 use Rattle.refusals.specs.declared.Refusal.{Refusal}
 use Rattle.refusals.proofs.Outcomes.{accepted_same, accepted_refused, passed}
 use Rattle.records.specs.Format.{encode, buffer_size}
@@ -32,22 +31,12 @@ use Rattle.words.proofs.LineReads.{line_judged}
 use Rattle.words.proofs.Judged.{accepted_record}
 use Rattle.wordlists.specs.Items.{refused_tag}
 use Rattle.wordlists.proofs.Lines.{read_refused}
-use Rattle.tokens.specs.Tokens.{x_sign}
 use Rattle.notation.specs.Promises.{room_for, judged_text, TextRecorded}
 use Rattle.appending.specs.Hexadecimal.{hex_of}
 use Rattle.commands.specs.Answers.{saying, denying, line_of, room_size}
 use Rattle.commands.specs.Words.{is_text_value, word_record, text_record, LineRecord, of_word, of_text, item_by}
 use Rattle.commands.specs.inside.Steps.{front_of}
 use Rattle.commands.proofs.Fronts.{front_found}
-
--- No byte, or the first.
-pub text_none : (line : List ℕ) → length line ≡ 0 → false ≡ is_text_value line
-text_none [] e = refl
-text_none (x ∷ s) e = absurd (omega (arith, e))
-
-pub text_first : (line : List ℕ) → (length line ≡ 0 → ⊥) → eqb (get_or line 0 0) x_sign ≡ is_text_value line
-text_first [] h = absurd (h refl)
-text_first (x ∷ s) h = refl
 
 -- Memory that serves every word and text.
 pub record Full (m : Memory) : Type 0 where
@@ -63,7 +52,7 @@ full_judged line m f = line_judged {line = line} {m = m} (record {
   buffer_long = λ few. omega (arith, few, f.buffer);
 })
 
-module _ {line : List ℕ} {m m' : Memory} {r : Reply} (f : Full m) where
+module _ {line : List ℕ} {m m' : Memory} {r : Result ℕ Refusal} (f : Full m) where
   -- The record of a word stands at the front.
   pub word_front : Recorded line m m' r → front_of (reply_of r) m'.buffer ≡ word_record (line_read line)
   word_front h =
@@ -127,11 +116,14 @@ module _ {line : List ℕ} {m m' : Memory} {r : Reply} (f : Full m) where
       → LineRecord line (front_of (reply_of r) m'.buffer)
   text_found e h = subst (LineRecord line) (sym (text_front h)) (of_text e h.found h.reads)
 
--- The bytes of the item of a refused word.
-pub item_bytes : {n k p q : ℕ} → n ≡ k → p ≡ q
-    → denying (line_of (hex_of (field refused_tag (n ∷ two_bytes p))))
+-- The bytes of the item of a refused word, its place in the two bytes of a number.
+pub item_bytes : {n k p q : ℕ} {place : List ℕ} → n ≡ k → place ≡ (p / 256 % 256) ∷ (p % 256) ∷ [] → p ≡ q → q < 65536
+    → denying (line_of (hex_of (15 ∷ 0 ∷ 3 ∷ n ∷ get_or place 0 0 ∷ get_or place 1 0 ∷ [])))
     ≡ denying (line_of (hex_of (field refused_tag (k ∷ two_bytes q))))
-item_bytes e h = ap₂ (λ (n p : ℕ). denying (line_of (hex_of (field refused_tag (n ∷ two_bytes p))))) e h
+item_bytes {n} {k} {p} {q} e b same small =
+    let high : p / 256 % 256 ≡ q / 256 = rw same (omega (arith, small)) in
+    ap₂ (λ (m : ℕ) (l : List ℕ). denying (line_of (hex_of (15 ∷ 0 ∷ 3 ∷ m ∷ get_or l 0 0 ∷ get_or l 1 0 ∷ [])))) e
+    (b ∙ ap₂ (λ (x y : ℕ). x ∷ y ∷ []) high (ap (λ (x : ℕ). x % 256) same))
 
 -- The item of a word that is accepted, and of one that is not.
 item_accepted : (o : Outcome Word) (t : List ℕ) → accepted t ≡ word_record o → saying (line_of (hex_of t)) ≡ item_by o
@@ -146,18 +138,18 @@ item_refused (refused k q) n p e = sym (refused_same e)
         → ◌≡◌ {A = Outcome Word} (refused n p) (refused k q)
     refused_same h = cc
 
-module _ {line : List ℕ} {m m' : Memory} {r : Reply} (f : Full m) (h : Recorded line m m' r) where
-  pub item-said : {n : ℕ} {t : List ℕ} → r ≡ Number n → t ≡ take n m'.buffer
+module _ {line : List ℕ} {m m' : Memory} {r : Result ℕ Refusal} (f : Full m) (h : Recorded line m m' r) where
+  pub item-said : {n : ℕ} {t : List ℕ} → r ≡ Ok n → t ≡ take n m'.buffer
       → saying (line_of (hex_of t)) ≡ item_by (line_read line)
   item-said {n} {t} e c =
       item_accepted (line_read line) t
-      (ap accepted c ∙ ap (λ (x : Reply). front_of (reply_of x) m'.buffer) (sym e) ∙ word_front f h)
+      (ap accepted c ∙ ap (λ (x : Result ℕ Refusal). front_of (reply_of x) m'.buffer) (sym e) ∙ word_front f h)
 
-  module _ {q : Refusal} (e : r ≡ Refused q) where
+  module _ {q : Refusal} (e : r ≡ Err q) where
     so : line_read line ≡ refused (number_of q) (place_of q)
     so =
         item_refused (line_read line) (number_of q) (place_of q)
-        (ap (λ (x : Reply). front_of (reply_of x) m'.buffer) (sym e) ∙ word_front f h)
+        (ap (λ (x : Result ℕ Refusal). front_of (reply_of x) m'.buffer) (sym e) ∙ word_front f h)
 
     pub item-place : place_of q < 65536
     item-place = omega (arith, (read_refused line (number_of q) (place_of q) so).1, limit_counts)

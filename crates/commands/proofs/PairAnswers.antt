@@ -7,14 +7,13 @@ use native.Mathlib.Omega.{arith}
 use borrow.Author.Tests.{ltb-false}
 use lib.Dec.{ltb}
 use lib.ListN.{length, take}
+use Rattle.std.specs.Prelude.{Result, Ok, Err}
 use Rattle.lines.specs.Lines.{line_feed}
 use Rattle.numerals.specs.Decimals.{decimal}
 use Rattle.lists.proofs.Writes.{sets_front}
 use Rattle.group.specs.Forms.{Form}
 use Rattle.refusals.specs.Refusals.{number_of, place_of}
 use Rattle.refusals.specs.Outcomes.{Outcome, accepted, refused, then, reply_of}
-use Rattle.refusals.specs.declared.Reply.{Reply}
-use Rattle.refusals.specs.declared.Reply.TheVariants.{Number, Refused}
 use Rattle.refusals.specs.declared.Refusal.{Refusal}
 use Rattle.refusals.proofs.Outcomes.{accepted_same, accepted_refused, passed, valued_refused, valued_accepted}
 use Rattle.records.specs.Reading.{decode}
@@ -81,13 +80,13 @@ pair_decoded s m p f e = go (decode s) refl
         d ∙ (passed (ltb p size) 7 0 (accepted g) f first.1).1
     go (refused k q) d = absurd (accepted_refused (sym e ∙ ap (λ (x : Outcome Form). then x both) d))
 
-module _ {s m p m' p' : List ℕ} {r : Reply} (h : Paired s m p m' p' r) where
+module _ {s m p m' p' : List ℕ} {r : Result ℕ Refusal} (h : Paired s m p m' p' r) where
   -- The outcome of the call.
   abbrev outcome : Outcome Form
   outcome = paired_in s (length m) (length p)
 
   -- The form of a pair that was written, and its shapes.
-  module _ (n : ℕ) (e : r ≡ Number n) where
+  module _ (n : ℕ) (e : r ≡ Ok n) where
     found : (f : Form) × (outcome ≡ accepted f) × (carets_of f ≡ n)
     found = valued_accepted carets_of outcome n (sym h.result ∙ ap reply_of e)
 
@@ -129,7 +128,7 @@ module _ {s m p m' p' : List ℕ} {r : Reply} (h : Paired s m p m' p' r) where
     }
 
   -- A refusal.
-  pub pair_denied : {q : Refusal} → r ≡ Refused q → length m ≡ room_size → length p ≡ room_size
+  pub pair_denied : {q : Refusal} → r ≡ Err q → length m ≡ room_size → length p ≡ room_size
       → denying (refusal_of q) ≡ said pair_text (paired_in s room_size room_size)
   pair_denied {q} e hm hp =
       let o : outcome ≡ refused (number_of q) (place_of q) =

@@ -1,65 +1,64 @@
 -- Two words on a line: the first blank, and a line that has none. Assumes nothing.
 use mathlib.Core.Path.{◌≡◌, refl, sym, ap, ap₂, ◌∙◌}
-use mathlib.Core.List.{List, [], ◌∷◌}
+use mathlib.Core.Bool.{cond}
+use mathlib.Core.List.{List}
 use Prim.Native.Nat.{ℕ, suc, ◌+◌, ◌<◌, ◌≤◌}
-use native.Mathlib.Nat.{zero-add}
-use native.Mathlib.Numerals.{add-one}
+use native.Mathlib.Decide.{dec_lt}
 use native.Mathlib.Omega.{arith}
-use borrow.Author.Tests.{eq-eqb, ne_eqb, lt-ltb, le-ltb}
-use lib.ListN.{length, get_or, take, drop, drop_of_length-le}
-use lib.Seq.{drop-cons}
+use borrow.Author.Tests.{lt-ltb, le-ltb}
+use lib.Dec.{eqb, ltb}
+use lib.ListN.{length, take, drop}
+use Rattle.std.specs.Prelude.{Option, Some, None, Result}
+use Rattle.std.specs.List.{position, position_or_len}
+use Rattle.std.proofs.lemmas.List.Recursion.{is_position_or_len}
 use Rattle.numerals.specs.Decimals.{ascii}
 use Rattle.group.specs.Limits.{limit}
 use Rattle.refusals.specs.Memory.{Memory}
 use Rattle.tokens.specs.Tokens.{space}
 use Rattle.comparisons.specs.declared.Comparison.{Comparison}
+use Rattle.comparisons.specs.declared.RefusedWord.{RefusedWord}
 use Rattle.comparisons.specs.Comparing.{decision_of, decided, Compared}
 use Rattle.commands.specs.Answers.{denying, refusal_text}
 use Rattle.commands.specs.Words.{decision_said, same_said, blank_at, single_said, same_line_said}
 use Rattle.commands.proofs.LineAnswers.{Full, full_judged}
 
--- The first byte is a blank, or is not, or there is none.
-blank_none : blank_at [] ≡ 0
+-- The place of the first blank is that of the first byte that passes the test.
+blank_is : (line : List ℕ) → blank_at line ≡ position_or_len (λ x. eqb x space) line
 unfolding blank_at
-blank_none = refl
+blank_is line = is_position_or_len blank_at (λ x. eqb x space) refl step line
+  where
+    step : (x : ℕ) (s : List ℕ) → cond (eqb x space) 0 (suc (blank_at s)) ≡ cond (eqb x space) 0 (1 + blank_at s)
+    step x s = let e : suc (blank_at s) ≡ 1 + blank_at s = omega arith in ap (cond (eqb x space) 0) e
 
-blank_here : (x : ℕ) (s : List ℕ) → x ≡ space → blank_at (x ∷ s) ≡ 0
-unfolding blank_at
-blank_here x s e = simp (eq-eqb x space e)
+-- A place that is given where it is inside.
+place_given : (n l k : ℕ) → cond (ltb n l) (Some n) None ≡ Some k → (k ≡ n) × (k < l)
+place_given n l k e = go (dec_lt n l)
+  where
+    go : Dec (n < l) → (k ≡ n) × (k < l)
+    go (yes inside) =
+        let f = rw (lt-ltb n l inside) at e in
+        let same : k ≡ n = cc in
+        (same, omega arith)
+    go (no behind) = let f = rw (le-ltb n l (omega arith)) at e in cc
 
-blank_later : (x : ℕ) (s : List ℕ) → (x ≡ space → ⊥) → blank_at (x ∷ s) ≡ suc (blank_at s)
-unfolding blank_at
-blank_later x s h = simp (ne_eqb x space h)
+place_missing : (n l : ℕ) → ◌≡◌ {A = Option ℕ} (cond (ltb n l) (Some n) None) None → l ≤ n
+place_missing n l e = go (dec_lt n l)
+  where
+    go : Dec (n < l) → l ≤ n
+    go (yes inside) = let f = rw (lt-ltb n l inside) at e in cc
+    go (no behind) = omega arith
 
--- None of the first i bytes is a blank.
-pub record Looked (line : List ℕ) (i : ℕ) : Type 0 where
-  pub inside : i ≤ length line
-  pub left : i + blank_at (drop i line) ≡ blank_at line
+-- The first blank, or none.
+pub blank_found : (line : List ℕ) (k : ℕ) → position (λ x. eqb x space) line ≡ Some k
+    → (k ≡ blank_at line) × (k < length line)
+blank_found line k e =
+    let p = place_given (position_or_len (λ x. eqb x space) line) (length line) k e in
+    (p.0 ∙ sym (blank_is line), p.1)
 
-pub look_start : (line : List ℕ) → Looked line 0
-look_start line = record { inside = omega arith; left = zero-add (blank_at line) }
-
-module _ {line : List ℕ} {i : ℕ} (p : Looked line i) where
-  module _ (h : i < length line) where
-    next : drop i line ≡ get_or line i 0 ∷ drop (i + 1) line
-    next = rw add-one (drop-cons line i 0 h)
-
-    pub look_found : get_or line i 0 ≡ space → i ≡ blank_at line
-    look_found e =
-        let here : blank_at (drop i line) ≡ 0 =
-        ap blank_at next ∙ blank_here (get_or line i 0) (drop (i + 1) line) e in
-        omega (arith, here, p.left)
-
-    pub look_more : (get_or line i 0 ≡ space → ⊥) → Looked line (i + 1)
-    look_more other =
-        let later : blank_at (drop i line) ≡ suc (blank_at (drop (i + 1) line)) =
-        ap blank_at next ∙ blank_later (get_or line i 0) (drop (i + 1) line) other in
-        record { inside = omega arith; left = omega (arith, later, p.left) }
-
-  pub look_done : length line ≤ i → i ≡ blank_at line
-  look_done h =
-      let none : blank_at (drop i line) ≡ 0 = ap blank_at (drop_of_length-le line h) ∙ blank_none in
-      omega (arith, none, p.left)
+pub blank_missing : (line : List ℕ) → ◌≡◌ {A = Option ℕ} (position (λ x. eqb x space) line) None
+    → length line ≤ blank_at line
+blank_missing line e =
+    omega (arith, blank_is line, place_missing (position_or_len (λ x. eqb x space) line) (length line) e)
 
 -- A line that has no blank.
 pub single_long : (line : List ℕ) → limit < length line → denying (refusal_text 1 limit) ≡ single_said line
@@ -80,8 +79,8 @@ pub line_single : (line : List ℕ) {k : ℕ} → k ≡ blank_at line → length
 line_single line e h = simp (le-ltb (blank_at line) (length line) (omega (arith, e, h)))
 
 -- What is decided of two words in memory that serves every word.
-pub compared_said : (u v : List ℕ) {m m' n n' : Memory} {r : Comparison} → Full m → Full n → Compared u m m' v n n' r
-    → decision_said (decision_of r) ≡ same_said u v
+pub compared_said : (u v : List ℕ) {m m' n n' : Memory} {r : Result Comparison RefusedWord} → Full m → Full n
+    → Compared u m m' v n n' r → decision_said (decision_of r) ≡ same_said u v
 compared_said u v {m} {m'} {n} {n'} {r} f g h =
     ap decision_said
     (h.result ∙ ap₂ decided (full_judged u m f) (full_judged v n g))

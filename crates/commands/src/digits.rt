@@ -9,10 +9,7 @@ use appending::{append, append_byte};
 pub fn front(bytes: &[u8], n: usize) -> &[u8]
     ensures { result.now ≡ take n bytes.now }
 {
-    if n < bytes.len() {
-        return &bytes[..n];
-    }
-    bytes
+    bytes.get(..n).unwrap_or(bytes)
 }
 
 // The digit of a node: 1 for a caret, 0 for a leaf.
@@ -27,10 +24,8 @@ pub fn append_digits(shape: &[u8], out: &mut [u8], at: usize) -> usize
     ensures { Appended (digits_of shape.now) out.old at out.new result }
 {
     let mut end = append(b"", out, at);
-    let mut i = 0;
-    while i < shape.len() {
-        end = append_byte(digit(shape[i]), out, end);
-        i += 1;
+    for &x in shape {
+        end = append_byte(digit(x), out, end);
     }
     end
 }

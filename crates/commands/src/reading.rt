@@ -6,9 +6,9 @@ ghost use Rattle.commands.specs.Promises.{Says};
 
 use crate::digits::front;
 use crate::saying::close;
-use crate::{ANSWER, Answer, Question, ROOM, ask};
+use crate::{ANSWER, Answer, Question, Rooms, ask};
 use appending::{append, append_decimal};
-use hexadecimal::{Amid, NONE};
+use hexadecimal::Amid;
 
 // A character that is out of place.
 fn refuse_stray(offset: u64, out: &mut [u8; ANSWER]) -> Answer
@@ -25,18 +25,13 @@ pub fn ask_read(
     question: Question,
     bytes: &[u8],
     amid: Amid,
-    first: &mut [u8; ROOM],
-    second: &mut [u8; ROOM],
+    rooms: &mut Rooms,
     out: &mut [u8; ANSWER],
 ) -> Answer
     ensures { Says (fitted (hex_said question (ended_as bytes.now amid))) out.new result }
 {
-    if amid.stray {
+    if amid.stray || amid.high.is_some() {
         return refuse_stray(amid.offset, out);
     }
-    if amid.high < NONE {
-        return refuse_stray(amid.offset, out);
-    }
-    let record = front(bytes, amid.held);
-    ask(question, record, first, second, out)
+    ask(question, front(bytes, amid.held), rooms, out)
 }

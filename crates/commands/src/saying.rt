@@ -1,42 +1,35 @@
 // Refusals in words, and a text that is closed: where it does not fit the buffer, that is said instead.
+ghost use Rattle.std.specs.Prelude.{◌≡◌};
 ghost use Rattle.refusals.specs.Refusals.{number_of};
 ghost use Rattle.appending.specs.inside.Appending.{Appended};
 ghost use Rattle.commands.specs.Answers.{reason_of, denying, fitted};
 ghost use Rattle.commands.specs.Promises.{Says};
-ghost use Rattle.commands.specs.inside.Steps.{Closed, refusal_of};
+ghost use Rattle.commands.specs.inside.Steps.{Closed, Answered, refusal_of};
 
 use crate::{ANSWER, Answer};
 use appending::{BEYOND, append, append_decimal};
 use refusals::Refusal;
 
 // The reason of a refusal.
-fn append_reason(r: Refusal, out: &mut [u8], at: usize) -> usize
-    ensures { Appended (reason_of (number_of r)) out.old at out.new result }
+fn reason(r: Refusal) -> &'static [u8]
+    ensures { result.now ≡ reason_of (number_of r) }
 {
     match r {
-        Refusal::TooManyLetters => append(b"more letters than the limit", out, at),
-        Refusal::NotLetter(_) => append(b"a byte that is no letter", out, at),
-        Refusal::BadFrame => append(b"the two fields do not frame the record", out, at),
-        Refusal::BadEntry(_) => append(b"an entry that breaks a rule", out, at),
-        Refusal::NotReduced(_) => append(b"the form is not reduced", out, at),
-        Refusal::ShortTable => append(b"a table that is too short", out, at),
-        Refusal::ShortBuffer => append(b"an output buffer that is too short", out, at),
-        Refusal::LongSpelling => append(b"a spelling with more letters than the limit", out, at),
-        Refusal::Misspelled(_) => {
-            append(b"a misspelled token, or an index above the limit", out, at)
-        }
-        Refusal::LargeExponents => append(b"exponents whose sizes sum above the limit", out, at),
-        Refusal::HighIndex => append(b"a reduced form with an index above the limit", out, at),
-        Refusal::BadRegister => append(b"no well-formed register", out, at),
-        Refusal::HolderFull => append(b"a holder with four entries", out, at),
-        Refusal::RegisterFull => append(b"an entry that does not fit the register", out, at),
-        Refusal::NotTree => {
-            append(
-                b"no tree within the bound, or no such node or leaf",
-                out,
-                at,
-            )
-        }
+        Refusal::TooManyLetters => b"more letters than the limit",
+        Refusal::NotLetter(_) => b"a byte that is no letter",
+        Refusal::BadFrame => b"the two fields do not frame the record",
+        Refusal::BadEntry(_) => b"an entry that breaks a rule",
+        Refusal::NotReduced(_) => b"the form is not reduced",
+        Refusal::ShortTable => b"a table that is too short",
+        Refusal::ShortBuffer => b"an output buffer that is too short",
+        Refusal::LongSpelling => b"a spelling with more letters than the limit",
+        Refusal::Misspelled(_) => b"a misspelled token, or an index above the limit",
+        Refusal::LargeExponents => b"exponents whose sizes sum above the limit",
+        Refusal::HighIndex => b"a reduced form with an index above the limit",
+        Refusal::BadRegister => b"no well-formed register",
+        Refusal::HolderFull => b"a holder with four entries",
+        Refusal::RegisterFull => b"an entry that does not fit the register",
+        Refusal::NotTree => b"no tree within the bound, or no such node or leaf",
     }
 }
 
@@ -45,11 +38,11 @@ pub fn append_refusal(r: Refusal, out: &mut [u8], at: usize) -> usize
     ensures { Appended (refusal_of r) out.old at out.new result }
 {
     let named = append(b"refused ", out, at);
-    let numbered = append_decimal(refusals::number(r) as u64, out, named);
+    let numbered = append_decimal(r.number() as u64, out, named);
     let parted = append(b" at ", out, numbered);
-    let placed = append_decimal(refusals::place(r) as u64, out, parted);
+    let placed = append_decimal(r.place() as u64, out, parted);
     let colon = append(b": ", out, placed);
-    let explained = append_reason(r, out, colon);
+    let explained = append(reason(r), out, colon);
     append(b"\n", out, explained)
 }
 
@@ -75,4 +68,14 @@ pub fn refuse(r: Refusal, out: &mut [u8; ANSWER]) -> Answer
 {
     let end = append_refusal(r, out, 0);
     close(end, true, out)
+}
+
+// The answer to a reply: its line, or the refusal.
+pub(crate) fn answer(reply: Result<usize, Refusal>, out: &mut [u8; ANSWER]) -> Answer
+    ensures { Answered reply out.old out.new result }
+{
+    match reply {
+        Ok(end) => close(end, false, out),
+        Err(r) => refuse(r, out),
+    }
 }

@@ -1,4 +1,2 @@
 -- Two words.
 pub mod Comparing
--- what no claim reaches
-pub mod inside

@@ -2,26 +2,45 @@
 // was lent is touched on a refusal.
 #![tactic(auto)]
 
+ghost use Rattle.std.specs.Prelude.{◌≡◌, Ok, true};
 ghost use Rattle.refusals.specs.Memory.{memory};
-ghost use Rattle.comparisons.specs.Comparing.{Compared};
+ghost use Rattle.records.specs.Reading.{frames};
+ghost use Rattle.comparisons.specs.Comparing.{decision_of, verdict_on, Compared};
 
-use refusals::{Refusal, Verdict};
+use forest::Scratch;
+use refusals::Refusal;
 
-mod writing;
-
-// Whether two words have one record, or the one's is the other's with its sides exchanged, or neither; or a refusal of
-// the first or of the second.
-#[derive(Clone, Copy)]
+// Whether two words have one record, or the one's is the other's with its sides exchanged, or neither.
+#[derive(Clone, Copy, Debug, PartialEq, Eq)]
 pub enum Comparison {
     Same,
     Inverse,
     Different,
+}
+
+// The refusal of the first of two words or of the second.
+#[derive(Clone, Copy)]
+pub enum RefusedWord {
     First(Refusal),
     Second(Refusal),
 }
 
+// The verdict on two records.
+fn verdict(record1: &[u8], record2: &[u8]) -> Comparison
+    requires { (frames record1.now ≡ true) × (frames record2.now ≡ true) }
+    ensures { decision_of (Ok result) ≡ verdict_on record1.now record2.now }
+{
+    if record1 == record2 {
+        Comparison::Same
+    } else if records::is_exchange(record1, record2) {
+        Comparison::Inverse
+    } else {
+        Comparison::Different
+    }
+}
+
 // Two words: same, inverse or different by their records. Both are judged before anything is written, the first word
-// first.
+// first; the second finds the scratch as the first left it.
 pub fn same_element(
     word1: &[u8],
     b_table1: &mut [u16],
@@ -31,7 +50,7 @@ pub fn same_element(
     b_table2: &mut [u16],
     a_table2: &mut [u16],
     record2: &mut [u8],
-) -> Comparison
+) -> Result<Comparison, RefusedWord>
     ensures { Compared word1.now
         (memory b_table1.old a_table1.old record1.old)
         (memory b_table1.new a_table1.new record1.new)
@@ -39,15 +58,12 @@ pub fn same_element(
         (memory b_table2.old a_table2.old record2.old)
         (memory b_table2.new a_table2.new record2.new) result }
 {
-    let first = words::judge(word1, b_table1.len(), a_table1.len(), record1.len());
-    if let Verdict::Refused(r) = first {
-        return Comparison::First(r);
-    }
-    let second = words::judge(word2, b_table2.len(), a_table2.len(), record2.len());
-    if let Verdict::Refused(r) = second {
-        return Comparison::Second(r);
-    }
-    writing::write_two(
-        word1, b_table1, a_table1, record1, word2, b_table2, a_table2, record2,
-    )
+    words::judge(word1, b_table1.len(), a_table1.len(), record1.len()).map_err(RefusedWord::First)?;
+    words::judge(word2, b_table2.len(), a_table2.len(), record2.len()).map_err(
+        RefusedWord::Second,
+    )?;
+    let mut scratch = Scratch::new();
+    let first = words::record_in(word1, b_table1, a_table1, record1, &mut scratch).unwrap();
+    let second = words::record_in(word2, b_table2, a_table2, record2, &mut scratch).unwrap();
+    Ok(verdict(&record1[..first], &record2[..second]))
 }

@@ -1,23 +1,27 @@
 // Pictures: what is drawn goes to standard output at once, what is said in place of it to standard error. The answer of
-// a line then has no bytes; it has more than fit where the picture could not be written.
+// a line then has no bytes.
+use crate::asked::Asked;
+use crate::output::{Failed, write};
+use crate::sent::Kind;
 use crate::texts::tell;
-use crate::{arguments, asked, help, output, parts, sent};
-use commands::{ANSWER, Answer, Question, ROOM, TABLE, reading, sending};
-use drawings::{Drawn, PICTURE};
+use crate::{arguments, asked, sent};
+use commands::digits::front;
+use commands::{ANSWER, Answer, Lent, Question, Rooms, reading, sending};
+use drawings::PICTURE;
 use hexadecimal::Amid;
 use std::env::Env;
 use std::io::Read;
 
-// What is asked of a record besides a question: nothing, an SVG text, characters.
-pub const NONE: u8 = 0;
-
-pub const SVG: u8 = 1;
-
-pub const CHARACTERS: u8 = 2;
+// How a picture is drawn: as an SVG text, or in characters.
+#[derive(Clone, Copy, Debug, PartialEq, Eq)]
+pub enum Style {
+    Svg,
+    Characters,
+}
 
 // The answer where something is said on standard error.
 fn deny(answer: &[u8; ANSWER], a: Answer) -> Answer {
-    tell(parts::front(answer, a.bytes));
+    tell(front(answer, a.bytes));
     Answer {
         bytes: 0,
         refused: true,
@@ -25,125 +29,74 @@ fn deny(answer: &[u8; ANSWER], a: Answer) -> Answer {
 }
 
 // Writes a picture.
-fn show(picture: &[u8; PICTURE], n: usize) -> Answer {
-    if output::write(parts::front(picture, n)) {
-        return Answer {
-            bytes: 0,
-            refused: false,
-        };
-    }
-    Answer {
-        bytes: output::FAILED,
+fn show(picture: &[u8]) -> Result<Answer, Failed> {
+    write(picture)?;
+    Ok(Answer {
+        bytes: 0,
         refused: false,
-    }
+    })
 }
 
 // The picture of a record.
 fn draw_record(
-    style: u8,
+    style: Style,
     record: &[u8],
-    first: &mut [u8; ROOM],
-    second: &mut [u8; ROOM],
+    rooms: &mut Rooms,
     answer: &mut [u8; ANSWER],
-) -> Answer {
+) -> Result<Answer, Failed> {
     let mut picture = [0u8; PICTURE];
     let drawn = drawings::draw(
-        style == CHARACTERS,
+        style == Style::Characters,
         record,
-        first,
-        second,
+        rooms,
         &mut picture,
         answer,
     );
     match drawn {
-        Drawn::Picture(n) => show(&picture, n),
-        Drawn::Refused(a) => deny(answer, a),
+        Ok(n) => show(front(&picture, n)),
+        Err(a) => Ok(deny(answer, a)),
     }
 }
 
 // The picture of a line in hexadecimal, behind its last character.
 pub fn draw_read(
-    style: u8,
+    style: Style,
     bytes: &[u8],
     amid: Amid,
-    first: &mut [u8; ROOM],
-    second: &mut [u8; ROOM],
+    rooms: &mut Rooms,
     answer: &mut [u8; ANSWER],
-) -> Answer {
-    let a = reading::ask_read(Question::Check, bytes, amid, first, second, answer);
+) -> Result<Answer, Failed> {
+    let a = reading::ask_read(Question::Check, bytes, amid, rooms, answer);
     if a.refused {
-        return deny(answer, a);
+        return Ok(deny(answer, a));
     }
-    draw_record(style, parts::front(bytes, amid.held), first, second, answer)
+    draw_record(style, front(bytes, amid.held), rooms, answer)
 }
 
-// The picture of the record of a line, in memory of its own.
-fn draw_found(style: u8, record: &[u8], answer: &mut [u8; ANSWER]) -> Answer {
-    let mut first = [0u8; ROOM];
-    let mut second = [0u8; ROOM];
-    draw_record(style, record, &mut first, &mut second, answer)
-}
-
-// The picture of a word or a text.
+// The picture of a word or a text. What is sent has a record, so that 0 stands for no count.
 pub fn draw_word(
-    style: u8,
+    style: Style,
     line: &[u8],
-    b: &mut [u16; TABLE],
-    a: &mut [u16; TABLE],
-    record: &mut [u8; ROOM],
+    lent: &mut Lent,
     answer: &mut [u8; ANSWER],
-) -> Answer {
-    let said = sending::send(line, b, a, record, answer);
+) -> Result<Answer, Failed> {
+    let said = sending::send(line, lent, answer);
     if said.refused {
-        return deny(answer, said);
+        return Ok(deny(answer, said));
     }
-    let reply = sending::find_record(line, b, a, record);
-    draw_found(
-        style,
-        parts::front(record, refusals::count_of(reply)),
-        answer,
-    )
-}
-
-// A picture of argument i, or of lines where there is none.
-fn draw_from<R: Read, E: Env>(input: &mut R, words: &E, style: u8, i: usize, next: usize) -> u8 {
-    let n = arguments::count(words);
-    if n == i {
-        return asked::ask_lines(input, Question::Check, style);
-    }
-    if n == next {
-        return asked::ask_argument(words, Question::Check, style, i);
-    }
-    help::wrong()
-}
-
-// The same of a word.
-fn draw_words<R: Read, E: Env>(input: &mut R, words: &E, kind: u8, i: usize, next: usize) -> u8 {
-    let n = arguments::count(words);
-    if n == i {
-        return sent::send_lines(input, kind);
-    }
-    if n == next {
-        return sent::send_argument(words, kind, i);
-    }
-    help::wrong()
-}
-
-// A picture in characters.
-fn draw_text<R: Read, E: Env>(input: &mut R, words: &E) -> u8 {
-    if arguments::is(words, 3, b"--word") {
-        return draw_words(input, words, sent::DRAW_TEXT, 4, 5);
-    }
-    draw_from(input, words, CHARACTERS, 3, 4)
+    let n = sending::find_record(line, lent).unwrap_or(0);
+    draw_record(style, front(&lent.record, n), &mut Rooms::new(), answer)
 }
 
 // The word `draw` of the command.
 pub fn run<R: Read, E: Env>(input: &mut R, words: &E) -> u8 {
-    if arguments::is(words, 2, b"--text") {
-        return draw_text(input, words);
+    let (style, i) = if arguments::is(words, 2, b"--text") {
+        (Style::Characters, 3)
+    } else {
+        (Style::Svg, 2)
+    };
+    if arguments::is(words, i, b"--word") {
+        return sent::run(input, words, Kind::Draw(style), i + 1);
     }
-    if arguments::is(words, 2, b"--word") {
-        return draw_words(input, words, sent::DRAW, 3, 4);
-    }
-    draw_from(input, words, SVG, 2, 3)
+    asked::run(input, words, Asked::Picture(style), i)
 }

@@ -3,6 +3,8 @@
 // cannot be read or the output cannot be written.
 #![tactic(auto)]
 
+use crate::asked::Asked;
+use crate::sent::Kind;
 use commands::Question;
 use std::env::Env;
 use std::io::Read;
@@ -13,88 +15,57 @@ mod drawn;
 mod help;
 mod inputs;
 mod output;
-mod parts;
 mod sent;
 mod texts;
 mod topics;
 
-// A question about a record, from an argument or from lines.
-fn ask<R: Read, E: Env>(input: &mut R, words: &E, question: Question) -> u8 {
-    match arguments::count(words) {
-        2 => asked::ask_lines(input, question, drawn::NONE),
-        3 => asked::ask_argument(words, question, drawn::NONE, 2),
-        _ => help::wrong(),
-    }
-}
-
-// Words, from an argument or from lines.
-fn send<R: Read, E: Env>(input: &mut R, words: &E, kind: u8) -> u8 {
-    match arguments::count(words) {
-        2 => sent::send_lines(input, kind),
-        3 => sent::send_argument(words, kind, 2),
-        _ => help::wrong(),
-    }
-}
-
 // Two words, from two arguments or from lines.
 fn compare<R: Read, E: Env>(input: &mut R, words: &E) -> u8 {
     match arguments::count(words) {
-        2 => sent::send_lines(input, sent::SAME),
+        2 => sent::send_lines(input, Kind::Same),
         4 => sent::compare_arguments(words),
         _ => help::wrong(),
     }
 }
 
-// Receipts, numbered from 1 or from an argument.
-fn receive<R: Read, E: Env>(input: &mut R, words: &E) -> u8 {
+// The number of the first receipt: 1, or an argument.
+fn first_receipt<E: Env>(words: &E) -> Option<u64> {
     match arguments::count(words) {
-        2 => receiving::run(input, 1),
-        3 => receive_from(input, arguments::number(words, 2)),
-        _ => help::wrong(),
+        2 => Some(1),
+        3 => arguments::number(words, 2),
+        _ => None,
     }
 }
 
-// Receipts numbered from a number, which is 0 where the argument is none.
-fn receive_from<R: Read>(input: &mut R, number: u64) -> u8 {
-    if number == 0 {
-        return help::wrong();
+// Receipts.
+fn receive<R: Read, E: Env>(input: &mut R, words: &E) -> u8 {
+    match first_receipt(words) {
+        Some(from) => receiving::run(input, from),
+        None => help::wrong(),
     }
-    receiving::run(input, number)
 }
 
-// The words of the command that ask about a record.
-fn run_question<R: Read, E: Env>(input: &mut R, words: &E) -> u8 {
-    if arguments::is(words, 1, b"check") {
-        ask(input, words, Question::Check)
-    } else if arguments::is(words, 1, b"word") {
-        ask(input, words, Question::Word)
-    } else if arguments::is(words, 1, b"text") {
-        ask(input, words, Question::Text)
-    } else if arguments::is(words, 1, b"length") {
-        ask(input, words, Question::Length)
-    } else if arguments::is(words, 1, b"label-length") {
-        ask(input, words, Question::LabelLength)
-    } else if arguments::is(words, 1, b"pair") {
-        ask(input, words, Question::Pair)
-    } else {
-        help::run(words)
-    }
+// A question about a record.
+fn ask<R: Read, E: Env>(input: &mut R, words: &E, question: Question) -> u8 {
+    asked::run(input, words, Asked::Question(question), 2)
 }
 
 // The command of the arguments, on an input.
 pub fn run<R: Read, E: Env>(input: &mut R, words: &E) -> u8 {
-    if arguments::is(words, 1, b"record") {
-        send(input, words, sent::RECORD)
-    } else if arguments::is(words, 1, b"list") {
-        send(input, words, sent::LIST)
-    } else if arguments::is(words, 1, b"same") {
-        compare(input, words)
-    } else if arguments::is(words, 1, b"receipts") {
-        receive(input, words)
-    } else if arguments::is(words, 1, b"draw") {
-        drawn::run(input, words)
-    } else {
-        run_question(input, words)
+    let mut room = [0u8; 16];
+    match arguments::text(words, 1, &mut room) {
+        b"record" => sent::run(input, words, Kind::Record, 2),
+        b"list" => sent::run(input, words, Kind::List, 2),
+        b"same" => compare(input, words),
+        b"receipts" => receive(input, words),
+        b"draw" => drawn::run(input, words),
+        b"check" => ask(input, words, Question::Check),
+        b"word" => ask(input, words, Question::Word),
+        b"text" => ask(input, words, Question::Text),
+        b"length" => ask(input, words, Question::Length),
+        b"label-length" => ask(input, words, Question::LabelLength),
+        b"pair" => ask(input, words, Question::Pair),
+        _ => help::run(words),
     }
 }
 

@@ -1,102 +1,85 @@
-// Answers in a buffer until they are written.
-use crate::parts;
+// Answers in a buffer until they are written, and the status of what was written.
 use crate::texts::{STDOUT, tell};
+use commands::digits::front;
 use commands::{ANSWER, Answer};
 
 // The bytes of the buffer.
-pub const OUTPUT: usize = 262144;
+const OUTPUT: usize = 262144;
 
 // Where more bytes are held than these, another answer may not fit.
 const MOST_HELD: usize = OUTPUT - ANSWER;
 
-// The bytes of an answer that could not be written where it was due.
-pub const FAILED: usize = ANSWER + 1;
+// The input cannot be read, or the output cannot be written; standard error says which.
+#[derive(Clone, Copy, Debug, PartialEq, Eq)]
+pub struct Failed;
 
-// Behind an answer: how many bytes are held, whether all went well, and whether something was refused.
-#[derive(Clone, Copy)]
-pub struct Held {
-    pub used: usize,
-    pub well: bool,
+// The answers that are not written yet, and whether something was refused so far. No Vec: memory is fixed.
+#[derive(Drop)]
+pub struct Output {
+    held: [u8; OUTPUT],
+    used: usize,
     pub refused: bool,
 }
 
-// Nothing yet.
-pub fn begin() -> Held {
-    Held {
-        used: 0,
-        well: true,
-        refused: false,
-    }
-}
-
 // Writes bytes, and says where that fails.
-pub fn write(bytes: &[u8]) -> bool {
-    let well = io::write_all(STDOUT, bytes);
-    if !well {
-        tell(b"thompsonf: the output cannot be written\n");
+pub fn write(bytes: &[u8]) -> Result<(), Failed> {
+    if io::write_all(STDOUT, bytes) {
+        return Ok(());
     }
-    well
+    tell(b"thompsonf: the output cannot be written\n");
+    Err(Failed)
 }
 
-// Writes what is held.
-pub fn flush(out: &[u8; OUTPUT], h: Held) -> Held {
-    if h.used == 0 || !h.well {
-        return h;
+impl Output {
+    // Nothing yet.
+    pub fn new() -> Output {
+        Output {
+            held: [0; OUTPUT],
+            used: 0,
+            refused: false,
+        }
     }
-    let well = write(parts::front(out, h.used));
-    Held {
-        used: 0,
-        well,
-        refused: h.refused,
-    }
-}
 
-// Writes what is held where another answer may not fit.
-fn spill(out: &[u8; OUTPUT], h: Held) -> Held {
-    if h.used <= MOST_HELD {
-        return h;
+    // Writes what is held.
+    pub fn flush(&mut self) -> Result<(), Failed> {
+        let used = self.used;
+        self.used = 0;
+        write(front(&self.held, used))
     }
-    flush(out, h)
-}
 
-// Puts an answer behind those that are held.
-pub fn keep(answer: &[u8; ANSWER], a: Answer, out: &mut [u8; OUTPUT], h: Held) -> Held {
-    if a.bytes == FAILED {
-        return Held {
-            used: h.used,
-            well: false,
-            refused: h.refused,
-        };
-    }
-    let kept = spill(out, h);
-    let used = printing::put(parts::front(answer, a.bytes), out, kept.used);
-    Held {
-        used,
-        well: kept.well,
-        refused: kept.refused | a.refused,
+    // Puts an answer behind those that are held; they are written first where it may not fit.
+    pub fn keep(
+        &mut self,
+        answer: &[u8; ANSWER],
+        said: Result<Answer, Failed>,
+    ) -> Result<(), Failed> {
+        let a = said?;
+        if self.used > MOST_HELD {
+            self.flush()?;
+        }
+        self.used = printing::put(front(answer, a.bytes), &mut self.held, self.used);
+        self.refused = self.refused || a.refused;
+        Ok(())
     }
 }
 
-// The status of what was written.
-pub fn status(h: Held) -> u8 {
-    if !h.well {
-        return 2;
+// The status of a run, by whether something was refused; a number, since it is what the program exits with.
+pub fn status(refused: Result<bool, Failed>) -> u8 {
+    match refused {
+        Ok(false) => 0,
+        Ok(true) => 1,
+        Err(Failed) => 2,
     }
-    if h.refused {
-        return 1;
-    }
-    0
 }
 
-// Writes one answer, alone.
-pub fn write_answer(answer: &[u8; ANSWER], a: Answer) -> u8 {
-    if a.bytes == FAILED {
-        return 2;
-    }
-    let well = a.bytes == 0 || write(parts::front(answer, a.bytes));
-    status(Held {
-        used: 0,
-        well,
-        refused: a.refused,
-    })
+// Writes one answer, alone; whether it is a refusal.
+fn write_one(answer: &[u8; ANSWER], said: Result<Answer, Failed>) -> Result<bool, Failed> {
+    let a = said?;
+    write(front(answer, a.bytes))?;
+    Ok(a.refused)
+}
+
+// Writes one answer, alone: the status.
+pub fn write_answer(answer: &[u8; ANSWER], said: Result<Answer, Failed>) -> u8 {
+    status(write_one(answer, said))
 }

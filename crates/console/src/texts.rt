@@ -1,6 +1,6 @@
 // Text on standard error.
 
-// The numbers of standard output and standard error.
+// The numbers of standard output and standard error; the function of the kit that writes takes a number.
 pub const STDOUT: i32 = 1;
 
 pub const STDERR: i32 = 2;

@@ -5,20 +5,14 @@ ghost use Rattle.std.specs.Prelude.{◌≡◌, ◌++◌, length, min, take, drop
 ghost use Rattle.copying.specs.inside.Copying.{Copied};
 
 // The first n entries of one table, at the front of another; nothing where either has fewer.
+#[tactic(auto, using(crate::proofs::Copying::copied_front))]
 pub fn copy_front(from: &[u16], table: &mut [u16], n: usize)
     ensures { Copied from.now table.old n table.new }
 {
-    if from.len() < n {
+    if from.len() < n || table.len() < n {
         return;
     }
-    if table.len() < n {
-        return;
-    }
-    let mut i = 0;
-    while i < n {
-        table[i] = from[i];
-        i += 1;
-    }
+    table[..n].copy_from_slice(&from[..n]);
 }
 
 // As many bytes as both have, from the front of one to the front of another; the answer is how many.

@@ -2,7 +2,7 @@
 --     picture_of c t s n   the picture of the trees t and s with the length n, in characters or as SVG
 --     DrawnAs             the contract of `draw`
 -- Assumes nothing.
-use Rattle.std.specs.Prelude.{◌≡◌, Bool, cond, List, ℕ, ◌<◌, ◌≤◌, length, take}
+use Rattle.std.specs.Prelude.{◌≡◌, Bool, cond, List, ℕ, ◌<◌, ◌≤◌, length, take, Result, Ok, Err}
 use Rattle.numerals.specs.Decimals.{ascii}
 use Rattle.group.specs.Forms.{Form}
 use Rattle.refusals.specs.Outcomes.{accepted, refused}
@@ -14,8 +14,6 @@ use Rattle.pictures.specs.Spans.{drawn}
 use Rattle.pictures.specs.Svg.{svg_of}
 use Rattle.pictures.specs.Characters.{characters_of}
 use Rattle.commands.specs.declared.Answer.{Answer}
-use Rattle.drawings.specs.declared.Drawn.{Drawn}
-use Rattle.drawings.specs.declared.Drawn.TheVariants.{Picture, Refused}
 use Rattle.commands.specs.Answers.{denying, refusal_text, room_size, fitted}
 use Rattle.commands.specs.Promises.{Says}
 
@@ -39,13 +37,13 @@ abbrev pub picture_size : ℕ
 picture_size = 286720
 
 -- The picture stands at the front of its buffer; or why there is none is said in the other.
-pub data DrawnAs (characters : Bool) (s picture answer : List ℕ) : Drawn → Type 0 where
+pub data DrawnAs (characters : Bool) (s picture answer : List ℕ) : Result ℕ Answer → Type 0 where
   is_drawn : (f : Form) → paired_in s room_size room_size ≡ accepted f → carets_of f ≤ drawn → (n : ℕ)
-      → take n picture ≡ form_picture characters f → DrawnAs characters s picture answer (Picture n)
+      → take n picture ≡ form_picture characters f → DrawnAs characters s picture answer (Ok n)
   is_long_value : (f : Form) → paired_in s room_size room_size ≡ accepted f → carets_of f ≤ drawn
       → picture_size < length (form_picture characters f) → (a : Answer) → Says (fitted (denying long_picture)) answer a
-      → DrawnAs characters s picture answer (Refused a)
+      → DrawnAs characters s picture answer (Err a)
   is_large : (f : Form) → paired_in s room_size room_size ≡ accepted f → drawn < carets_of f → (a : Answer)
-      → Says (fitted (denying large_pair)) answer a → DrawnAs characters s picture answer (Refused a)
+      → Says (fitted (denying large_pair)) answer a → DrawnAs characters s picture answer (Err a)
   is_refused : (number place : ℕ) → paired_in s room_size room_size ≡ refused number place → (a : Answer)
-      → Says (fitted (denying (refusal_text number place))) answer a → DrawnAs characters s picture answer (Refused a)
+      → Says (fitted (denying (refusal_text number place))) answer a → DrawnAs characters s picture answer (Err a)

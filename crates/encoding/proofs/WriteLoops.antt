@@ -7,20 +7,13 @@ use lib.ListN.{length, get_or, length-append}
 use Rattle.lists.specs.inside.Writes.{Wrote, Writing}
 use Rattle.lists.proofs.Writes.{write_start, write_more, writing_same, write_done, writing_length}
 use Rattle.records.specs.Format.{put_power, powers, entries}
-use Rattle.records.proofs.Powers.{powers_from, powers_none, put_few, count_next, entries_next}
+use Rattle.records.proofs.Powers.{powers_from, powers_none, entries_next}
 
 -- The powers of the indices below i are counted.
 pub record Counting (t : List ℕ) (count i : ℕ) : Type 0 where
   pub inside : i ≤ length t
   pub few : count ≤ i
   pub left : count + length (powers_from i t) ≡ length (powers 0 t)
-
-pub count_more : {t : List ℕ} {count i k : ℕ} → Counting t count i → i < length t
-    → k ≡ length (put_power 0 (get_or t i 0) []) → Counting t (count + k) (i + 1)
-count_more {t} {count} {i} {k} c h e = omega (arith, put_few (get_or t i 0), count_next t i h)
-
-pub count_done : {t : List ℕ} {count i : ℕ} → Counting t count i → length t ≤ i → count ≡ length (powers 0 t)
-count_done {t} {count} {i} c h = omega (arith, ap length (powers_none t i h))
 
 -- The entries of the indices below i are written.
 pub record Putting (t now : List ℕ) (end i : ℕ) (entry : List ℕ) (at : ℕ) : Type 0 where

@@ -19,25 +19,16 @@ fn put_entry(out: &mut [u8], at: usize, index: usize, exponent: u16) -> usize
         return at;
     }
     let next = put_two(out, at, index);
-    put_two(out, next, exponent as usize)
+    put_two(out, next, usize::from(exponent))
 }
 
-// 1 for an exponent that has an entry, and 0 for exponent 0.
-fn one_power(exponent: u16) -> usize
-    ensures { result ≡ length (put_power 0 exponent []) }
-{
-    if exponent > 0 { 1 } else { 0 }
-}
-
-// How many exponents of a table are not 0.
+// How many exponents of a table are not 0; no branch hangs on an exponent.
 pub fn count_powers(table: &[u16]) -> usize
     ensures { (result ≡ length (powers 0 table.now)) × (result ≤ length table.now) }
 {
     let mut count = 0;
-    let mut i = 0;
-    while i < table.len() {
-        count += one_power(table[i]);
-        i += 1;
+    for &exponent in table {
+        count += usize::from(exponent > 0);
     }
     count
 }
@@ -49,10 +40,8 @@ fn put_entries(table: &[u16], out: &mut [u8], at: usize) -> usize
     ensures { Wrote (encode_body table.now) out.old at out.new result }
 {
     let mut end = at;
-    let mut i = 0;
-    while i < table.len() {
-        end = put_entry(out, end, i, table[i]);
-        i += 1;
+    for (index, &exponent) in table.iter().enumerate() {
+        end = put_entry(out, end, index, exponent);
     }
     end
 }

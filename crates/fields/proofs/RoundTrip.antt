@@ -6,7 +6,7 @@ use Prim.Native.Nat.{ℕ, suc, ◌+◌}
 use native.Mathlib.Omega.{arith}
 use lib.ListN.{length, take, drop, length-append, length-drop, length-take, take-append-drop}
 use lib.Seq.{drop-cons, drop-drop}
-use Rattle.fields.specs.declared.Field.TheVariants.{Body}
+use Rattle.std.specs.Prelude.{Some}
 use Rattle.fields.specs.Fields.{Bytes, two_bytes, two_at, field, head_size}
 use Rattle.fields.specs.inside.Reading.{field_at}
 use Rattle.fields.proofs.Numbers.{drop_on, read_at, two_read, two_written}
@@ -18,7 +18,7 @@ field-length tag body = omega arith
 
 -- A field that was written is read back, whatever stands before and behind it.
 pub field_read : (s t body : List ℕ) (at tag : ℕ) → drop at s ≡ field tag body ++ t
-    → field_at s at tag ≡ Body (length body)
+    → field_at s at tag ≡ Some (length body)
 field_read s t body at tag h =
     let behind : drop (at + 1) s ≡ two_bytes (length body) ++ (body ++ t) =
     drop_on s (field tag body ++ t) at 1 (at + 1) h refl in
@@ -31,7 +31,7 @@ field_read s t body at tag h =
     })
 
 -- A field that is read stands in the bytes, with a body of so many bytes.
-pub field_stands : (s : List ℕ) (at tag n : ℕ) → Bytes s → field_at s at tag ≡ Body n
+pub field_stands : (s : List ℕ) (at tag n : ℕ) → Bytes s → field_at s at tag ≡ Some n
     → drop at s ≡ field tag (take n (drop (at + head_size) s)) ++ drop (at + head_size + n) s
 field_stands s at tag n bytes e =
     drop-cons s at 0 (omega (arith, found.within))

@@ -1,10 +1,12 @@
 -- The tables at exit: what a refusal keeps, and what the engine leaves for an accepted word. Assumes nothing.
 use mathlib.Core.Path.{◌≡◌, refl, sym, ◌∙◌, ap, ap₂}
-use mathlib.Core.Bool.{false}
 use mathlib.Core.List.{List, [], ◌∷◌}
 use Prim.Native.Nat.{ℕ, ◌+◌, ◌≤◌}
 use native.Mathlib.Omega.{arith}
 use lib.ListN.{length}
+use Rattle.std.specs.Prelude.{⊤, Result, Ok, Err}
+use Rattle.refusals.specs.declared.Failure.{Failure}
+use Rattle.refusals.specs.declared.Failure.TheVariants.{Refused}
 use Rattle.lists.specs.Tables.{filled}
 use Rattle.group.specs.Letters.{Letter, 'a, 'A, 'b, 'B, Word}
 use Rattle.group.specs.Forms.{Side, b_side, a_side, exponent, levels}
@@ -13,21 +15,17 @@ use Rattle.group.specs.Limits.{limit}
 use Rattle.group.specs.Bytes.{byte_of, bytes_of, is_word, read_word}
 use Rattle.group.proofs.Bytes.{word_read, read_length}
 use Rattle.refusals.specs.declared.Refusal.{Refusal}
-use Rattle.refusals.specs.declared.Verdict.{Verdict}
-use Rattle.refusals.specs.declared.Verdict.TheVariants.{Accepted, Refused}
 use Rattle.refusals.specs.Refusals.{number_of, place_of}
 use Rattle.refusals.specs.Outcomes.{Outcome, accepted, refused, drop_value, verdict_of}
 use Rattle.refusals.proofs.Outcomes.{accepted_refused, drop_accepted, drop_refused}
-use Rattle.forest.specs.declared.Filling.{Filling}
-use Rattle.forest.specs.declared.Filling.TheVariants.{Filled, Refused as NotFilled, Unfit}
 use Rattle.letters.specs.Judging.{judged}
 use Rattle.forest.specs.Filling.{table_after}
-use Rattle.forest.specs.inside.Filling.{fits, judged_in, filling_of, FilledTables}
+use Rattle.forest.specs.inside.Filling.{judged_in, filling_of, FilledTables}
 use Rattle.forest.specs.inside.Forest.{tip_at}
-use Rattle.forest.specs.inside.Moves.{step_letter, step_word, Scratch, bushes_of, Piled}
+use Rattle.forest.specs.inside.Moves.{step_letter, step_word, bushes_of, Piled}
 use Rattle.forest.specs.inside.Leaves.{TipsReady, TablesRead}
 use Rattle.letters.proofs.Judged.{accepted_fit}
-use Rattle.forest.proofs.WordFits.{Fits, tip_letters, fit_sizes}
+use Rattle.forest.proofs.WordFits.{Fits}
 use Rattle.forest.proofs.RowTips.{row_ready, row_table, row_levels}
 
 -- On the bytes of a word the step reads that word.
@@ -56,19 +54,15 @@ fit_judged : (word b a lefts rights stack : List ℕ) → Fits word lefts rights
 fit_judged word b a lefts rights stack f = simp f
 
 -- Where the word and the tables are accepted: its number of letters fits 16 bits, and what the engine asks.
-module _ (word : List ℕ) (m n : ℕ) {v : Verdict} (e : v ≡ Accepted)
+module _ (word : List ℕ) (m n : ℕ) {v : Result ⊤ Refusal} (e : v ≡ (Ok tt))
     (f : verdict_of v ≡ drop_value (judged word m n)) where
   pub word_short : length word ≤ limit
   word_short =
       let (w, g) = drop_accepted (judged word m n) (sym (ap verdict_of e) ∙ f) in
       (accepted_fit word m n w g).short
 
-  pub scratch_fit : {lefts rights stack : List ℕ} → Fits word lefts rights stack
-      → Scratch (length word) word lefts rights stack
-  scratch_fit h = fit_sizes (length word) word_short (omega arith) (tip_letters (length word) word_short) h
-
 -- With the row on the stack: what the read-off asks.
-pub tips_fit : {last : ℕ} {word b a lefts rights stack : List ℕ} {height : ℕ} {v : Verdict} → v ≡ Accepted
+pub tips_fit : {last : ℕ} {word b a lefts rights stack : List ℕ} {height : ℕ} {v : Result ⊤ Refusal} → v ≡ (Ok tt)
     → verdict_of v ≡ drop_value (judged word (length b) (length a)) → Piled last word lefts rights stack height
     → TipsReady last lefts rights stack height b a (length word + 1)
 tips_fit {last} {word} {b} {a} e f piled =
@@ -78,7 +72,8 @@ tips_fit {last} {word} {b} {a} e f piled =
 
 module _ {word b a lefts rights stack : List ℕ} where
   -- On a refusal all that was lent is kept.
-  kept : (r : Filling) (n p : ℕ) → judged_in word b a lefts rights stack ≡ refused n p → filling_of r ≡ refused n p
+  kept : (r : Result ℕ Failure) (n p : ℕ) → judged_in word b a lefts rights stack ≡ refused n p
+      → filling_of r ≡ refused n p
       → FilledTables word b a lefts rights stack b a lefts rights stack r
   kept r n p e f = record {
     result = f ∙ sym (ap drop_value e);
@@ -88,33 +83,28 @@ module _ {word b a lefts rights stack : List ℕ} where
     levels_read = λ m g w h. absurd (accepted_refused (sym h ∙ e));
   }
 
-  -- Scratch that is too short.
-  pub unfit_word : fits word lefts rights stack ≡ false
-      → FilledTables word b a lefts rights stack b a lefts rights stack Unfit
-  unfit_word h = kept Unfit 0 0 (simp h) refl
-
   module _ (fit : Fits word lefts rights stack) where
     -- Where the word or the tables are refused.
-    pub word_refused : (v : Verdict) (x : Refusal) → v ≡ Refused x
-        → verdict_of v ≡ drop_value (judged word (length b) (length a))
-        → FilledTables word b a lefts rights stack b a lefts rights stack (NotFilled x)
-    word_refused v x e f =
-        kept (NotFilled x) (number_of x) (place_of x)
+    pub word_refused : (v : Result ⊤ Refusal) (x : Refusal) {r : Result ℕ Failure} → v ≡ Err x
+        → verdict_of v ≡ drop_value (judged word (length b) (length a)) → r ≡ Err (Refused x)
+        → FilledTables word b a lefts rights stack b a lefts rights stack r
+    word_refused v x {r} e f g =
+        kept r (number_of x) (place_of x)
         (fit_judged word b a lefts rights stack fit
         ∙ drop_refused (judged word (length b) (length a)) (sym (ap verdict_of e) ∙ f))
-        refl
+        (ap filling_of g)
 
     -- What the engine leaves.
-    pub tables_filled : {last : ℕ} {b' a' lefts' rights' piled stack' : List ℕ} {low n height : ℕ} (v : Verdict)
-        → v ≡ Accepted
+    pub tables_filled : {last : ℕ} {b' a' lefts' rights' piled stack' : List ℕ} {low n height : ℕ}
+        (v : Result ⊤ Refusal) → v ≡ Ok tt
         → verdict_of v ≡ drop_value (judged word (length b) (length a)) → Piled last word lefts' rights' piled low
         → TablesRead last lefts' rights' piled low b a (length word + 1) stack' b' a' n height
-        → FilledTables word b a lefts rights stack b' a' lefts' rights' stack' (Filled n)
+        → FilledTables word b a lefts rights stack b' a' lefts' rights' stack' (Ok n)
     tables_filled {last} {b'} {a'} {lefts'} {rights'} {piled} {stack'} {low} {n} v e f on t =
         go (drop_accepted (judged word (length b) (length a)) (sym (ap verdict_of e) ∙ f))
       where
         go : (w : Word) × (judged word (length b) (length a) ≡ accepted w)
-            → FilledTables word b a lefts rights stack b' a' lefts' rights' stack' (Filled n)
+            → FilledTables word b a lefts rights stack b' a' lefts' rights' stack' (Ok n)
         go (w, g) =
             let found = accepted_fit word (length b) (length a) w g in
             let o : judged_in word b a lefts rights stack ≡ accepted w =

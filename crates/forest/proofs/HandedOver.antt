@@ -1,12 +1,14 @@
 -- Powers whose row was read off: what the own tables show, and what is handed over, case by case. Assumes nothing.
-use mathlib.Core.Path.{◌≡◌, refl, sym, ◌∙◌, ap, subst}
+use mathlib.Core.Path.{◌≡◌, sym, ◌∙◌, ap, subst}
 use mathlib.Core.Bool.{true, false}
 use mathlib.Core.List.{List}
 use Prim.Native.Nat.{ℕ, suc, ◌≤◌, ◌<◌}
 use native.Mathlib.Omega.{arith}
 use lib.Dec.{ltb}
 use lib.ListN.{length, get_or}
-use borrow.Author.Tests.{lt-ltb, le-ltb}
+use borrow.Author.Tests.{le-ltb}
+use Rattle.std.specs.Prelude.{Result, Ok}
+use Rattle.refusals.specs.declared.Failure.{Failure}
 use Rattle.lists.specs.Tables.{filled}
 use Rattle.lists.proofs.Tables.{filled_at}
 use Rattle.copying.specs.inside.Copying.{Copied}
@@ -16,20 +18,17 @@ use Rattle.group.specs.Limits.{limit}
 use Rattle.group.specs.Powers.{SignedPower, product_letters}
 use Rattle.group.specs.inside.PowerLists.{powers_in}
 use Rattle.group.proofs.Sizes.{exponent-behind}
-use Rattle.refusals.specs.declared.Refusal.TheVariants.{HighIndex, ShortTable}
 use Rattle.refusals.specs.Outcomes.{Outcome, accepted, refused, drop_value}
 use Rattle.refusals.proofs.Outcomes.{accepted_refused, accepted_same}
-use Rattle.forest.specs.declared.Filling.{Filling}
-use Rattle.forest.specs.declared.Filling.TheVariants.{Filled, Refused, Unfit}
 use Rattle.forest.specs.Filling.{product_form, tables_for, product_table}
 use Rattle.forest.specs.inside.Filling.{cells, filling_of}
 use Rattle.forest.specs.inside.FillingPowers.{FilledAs, scratch_fits, powers_fit_value, judged_powers, FilledPowers}
 use Rattle.forest.specs.inside.Forest.{Bush, tip_at}
 use Rattle.forest.specs.inside.Cells.{StackStands}
 use Rattle.forest.specs.inside.Cursor.{cursor_bushes, cursor_of, IndicesWithin}
-use Rattle.forest.specs.inside.Seeking.{PowersReady, power_bushes, PowersPiled}
+use Rattle.forest.specs.inside.Seeking.{PowersReady, PowersPiled}
 use Rattle.forest.specs.inside.Leaves.{TablesRead}
-use Rattle.forest.specs.inside.Handing.{Shown, PileReady, PileRead}
+use Rattle.forest.specs.inside.Handing.{Shown, PileRead}
 use Rattle.forest.proofs.CursorBounds.{cursor_exponent}
 use Rattle.forest.proofs.HighTips.{low_levels, high-levels}
 use Rattle.forest.proofs.RowTips.{tips-levels}
@@ -67,7 +66,7 @@ module _ {lefts rights stack b a stack' b' a' : List ℕ} {low read height : ℕ
       }
 
 -- On a refusal the tables are kept.
-kept : {o : Outcome (List SignedPower)} {b a : List ℕ} (r : Filling) (n p : ℕ) → o ≡ refused n p
+kept : {o : Outcome (List SignedPower)} {b a : List ℕ} (r : Result ℕ Failure) (n p : ℕ) → o ≡ refused n p
     → filling_of r ≡ refused n p → FilledAs o b a b a r
 kept {o} {b} {a} r n p e f = record {
   result = f ∙ sym (ap (λ (q : Outcome (List SignedPower)). drop_value q) e);
@@ -78,30 +77,15 @@ kept {o} {b} {a} r n p e f = record {
 
 -- Own tables that show the form of powers, handed over.
 module _ {n height : ℕ} {ob oa : List ℕ} (b a : List ℕ) (ps : List SignedPower) (s : Shown ps n height ob oa) where
-  -- 11: bushes are left behind the limit.
-  pub too_high : (height ≡ 0 → ⊥) → FilledAs (tables_for (length b) (length a) ps) b a b a (Refused HighIndex)
-  too_high some =
-      kept (Refused HighIndex) 11 0 (simp (lt-ltb (suc limit) (levels (product_form ps)) (s.high some))) refl
-
   module _ (none : height ≡ 0) where
     -- No index is above the limit.
     low_enough : ltb (suc limit) (levels (product_form ps)) ≡ false
     low_enough = le-ltb (suc limit) (levels (product_form ps)) (omega (arith, s.low none, s.within))
 
-    -- 6: one of the tables is too short.
-    pub short_b : length b < suc limit → FilledAs (tables_for (length b) (length a) ps) b a b a (Refused ShortTable)
-    short_b h = kept (Refused ShortTable) 6 0 (simp (low_enough, lt-ltb (length b) (suc limit) h)) refl
-
-    pub short_a : suc limit ≤ length b → length a < suc limit
-        → FilledAs (tables_for (length b) (length a) ps) b a b a (Refused ShortTable)
-    short_a l h =
-        kept (Refused ShortTable) 6 0
-        (simp (low_enough, le-ltb (length b) (suc limit) l, lt-ltb (length a) (suc limit) h)) refl
-
     -- Both are copied.
     pub handed : {b' a' : List ℕ} → suc limit ≤ length b → suc limit ≤ length a
         → suc limit ≤ length ob → suc limit ≤ length oa → Copied ob b (suc limit) b' → Copied oa a (suc limit) a'
-        → FilledAs (tables_for (length b) (length a) ps) b a b' a' (Filled n)
+        → FilledAs (tables_for (length b) (length a) ps) b a b' a' (Ok n)
     handed l m ol om p q =
         let o : tables_for (length b) (length a) ps ≡ accepted ps =
         simp (low_enough, le-ltb (length b) (suc limit) l, le-ltb (length a) (suc limit) m) in
@@ -124,39 +108,17 @@ module _ {n height : ℕ} {ob oa : List ℕ} (b a : List ℕ) (ps : List SignedP
 -- The whole call.
 module _ {ks es ss b a lefts rights before stack : List ℕ} where
   -- By the outcome of the powers.
-  by_outcome : {o : Outcome (List SignedPower)} {b' a' : List ℕ} {r : Filling}
+  by_outcome : {o : Outcome (List SignedPower)} {b' a' : List ℕ} {r : Result ℕ Failure}
       → judged_powers ks es ss b a lefts rights before stack ≡ o → FilledAs o b a b' a' r
       → FilledPowers ks es ss b a lefts rights before stack b' a' r
   by_outcome {o} {b'} {a'} {r} e f =
       record { filled = subst (λ (u : Outcome (List SignedPower)). FilledAs u b a b' a' r) (sym e) f }
 
-  -- Scratch or powers that are unfit.
-  pub unfit_scratch : scratch_fits lefts rights before stack ≡ false
-      → FilledPowers ks es ss b a lefts rights before stack b a Unfit
-  unfit_scratch f = by_outcome (simp f) (kept Unfit 0 0 refl refl)
-
-  pub unfit_powers : scratch_fits lefts rights before stack ≡ true → powers_fit_value ks es ss ≡ false
-      → FilledPowers ks es ss b a lefts rights before stack b a Unfit
-  unfit_powers f g = by_outcome (simp (f, g)) (kept Unfit 0 0 refl refl)
-
   -- What fits, piled and read off.
-  pub powers-filled : {lefts' rights' stack' b' a' : List ℕ} {height : ℕ} {r : Filling}
+  pub powers-filled : {lefts' rights' stack' b' a' : List ℕ} {height : ℕ} {r : Result ℕ Failure}
       → scratch_fits lefts rights before stack ≡ true → powers_fit_value ks es ss ≡ true
       → PowersPiled ks es ss lefts' rights' stack' height → PileRead lefts' rights' stack' height b a b' a' r
       → FilledPowers ks es ss b a lefts rights before stack b' a' r
   powers-filled f g p h =
       let ready : PowersReady ks es ss lefts rights before stack = powers_ready f g in
       by_outcome (simp (f, g)) (h (powers_in ks es ss) ready.indices_within p.stack_stands)
-
--- The row of powers on the stack: what the read-off asks of it.
-pub pile_ready : {ks es ss lefts' rights' stack' : List ℕ} {height : ℕ} (lefts rights before stack : List ℕ)
-    → PowersReady ks es ss lefts rights before stack → length lefts' ≡ length lefts → length rights' ≡ length rights
-    → length stack' ≡ length stack → PowersPiled ks es ss lefts' rights' stack' height
-    → PileReady lefts' rights' stack' height
-pile_ready {ks} {es} {ss} lefts rights before stack a l r s p = record {
-  lefts_length = omega (arith, l, a.lefts_length);
-  rights_length = omega (arith, r, a.rights_length);
-  bushes = power_bushes ks es ss;
-  stack_stands = p.stack_stands;
-  few = omega (arith, p.few, s, a.stack_length);
-}

@@ -1,7 +1,7 @@
 -- Two stored bushes joined: a tip where the fork is taken away, else a new cell. Assumes nothing.
 use mathlib.Core.Path.{◌≡◌, refl, sym, subst}
 use mathlib.Core.List.{List}
-use Prim.Native.Nat.{ℕ, zero, suc, ◌+◌, ◌-◌, ◌≤◌, ◌<◌}
+use Prim.Native.Nat.{ℕ, zero, suc, ◌+◌, ◌≤◌, ◌<◌}
 use native.Mathlib.Omega.{arith}
 use lib.ListN.{get_or, set, length}
 use lib.Seq.{get_or-set_same}
@@ -28,19 +28,6 @@ grow last lefts rights used left right low (fork x y) code p h =
 -- The fork over the bushes of two codes is taken away.
 abbrev pub Merges : (last left right : ℕ) → Type 0
 Merges last left right = (right ≡ 0) × (0 < left) × (left ≤ last)
-
-pub join_merged : (last : ℕ) (lefts rights : List ℕ) (used left right : ℕ) → Merges last left right
-    → Made last lefts rights used left right lefts rights used (left - 1)
-join_merged last lefts rights used left right m =
-    record { low = omega arith; high = omega arith; keeps = λ x code h. h; makes = makes }
-  where
-    makes : (x y : Bush) → Stands last lefts rights used x left → Stands last lefts rights used y right
-        → Stands last lefts rights used (join_bushes x y) (left - 1)
-    makes (tip zero) y h k = absurd (omega (arith, m.1, h.0))
-    makes (tip (suc n)) (tip zero) h k = (omega (arith, h.0), omega (arith, h.1))
-    makes (tip (suc n)) (tip (suc l)) h k = absurd (omega (arith, m.0, k.0))
-    makes (tip (suc n)) (fork u v) h k = absurd (omega (arith, m.0, k.0))
-    makes (fork u v) y h k = absurd (omega (arith, m.2, h.0))
 
 module _ (last : ℕ) (lefts rights : List ℕ) (used left right : ℕ) (p : used < length lefts)
     (q : used < length rights) where

@@ -2,14 +2,13 @@
 use mathlib.Core.Path.{◌≡◌, subst}
 use mathlib.Core.List.{List, [], ◌∷◌}
 use Prim.Native.Nat.{ℕ}
-use native.Mathlib.Omega.{arith}
 use lib.ListN.{get_or}
-use borrow.Author.Tests.{eq-eqb, ne_eqb}
-use Rattle.group.specs.Letters.{Letter, 'a, 'A, 'b, 'B}
+use borrow.Author.Tests.{ne_eqb}
+use Rattle.group.specs.Letters.{Letter, 'a, 'b}
 use Rattle.forest.specs.declared.row.State.{State}
-use Rattle.forest.specs.inside.Forest.{Bush, right_part, first_bush, later_bushes, Row, row, move_row}
-use Rattle.forest.specs.inside.Cells.{Stands, StackStands, Popped, Pushed, Parted, Made}
-use Rattle.forest.specs.inside.Moves.{join_letter, part_letter, step_letter, Held, RaisableRow, Moved}
+use Rattle.forest.specs.inside.Forest.{Bush, first_bush, later_bushes, Row, row, move_row}
+use Rattle.forest.specs.inside.Cells.{Stands, StackStands, Popped, Made}
+use Rattle.forest.specs.inside.Moves.{join_letter, Held, RaisableRow, Moved}
 
 -- What keeps each bush keeps a stack of them.
 pub stack_keeps : (last : ℕ) (lefts rights lefts' rights' : List ℕ) (used used' : ℕ)
@@ -55,33 +54,6 @@ module _ (last : ℕ) (lefts rights stack lefts' rights' : List ℕ) (s : State)
             stack_keeps last lefts rights lefts' rights' s.used used m.keeps (later_bushes ts) stack height q.1,
           )
 
-module _ (last : ℕ) (lefts rights stack stack' : List ℕ) (s : State) (left right height : ℕ) where
-  -- The letter A: the second bush was pushed, and the first parted.
-  pub parted_first : Pushed stack s.height s.second stack' height → Parted last lefts rights s.first left right
-      → Moved last 'A lefts rights stack s lefts rights stack'
-      (record { used = s.used; height = height; first = left; second = right })
-  parted_first d p = record { low = omega arith; high = omega arith; moves = moves }
-    where
-      moves : (r : Row) → RaisableRow last r → Held last lefts rights stack s r
-          → Held last lefts rights stack' (record { used = s.used; height = height; first = left; second = right })
-          (move_row 'A r)
-      moves (row x y ts) l (h, k, t) =
-          let q = p s.used x l.0 h in
-          (q.0, q.1, d.puts last lefts rights s.used y ts k t)
-
-  -- The letter B.
-  pub parted_second : Pushed stack s.height right stack' height → Parted last lefts rights s.second left right
-      → Moved last 'B lefts rights stack s lefts rights stack'
-      (record { used = s.used; height = height; first = s.first; second = left })
-  parted_second d p = record { low = omega arith; high = omega arith; moves = moves }
-    where
-      moves : (r : Row) → RaisableRow last r → Held last lefts rights stack s r
-          → Held last lefts rights stack' (record { used = s.used; height = height; first = s.first; second = left })
-          (move_row 'B r)
-      moves (row x y ts) l (h, k, t) =
-          let q = p s.used y l.1 k in
-          (h, q.0, d.puts last lefts rights s.used (right_part y) ts q.1 t)
-
 -- The same letter by another name.
 pub as_letter : {last : ℕ} {l m : Letter} {lefts rights stack lefts' rights' stack' : List ℕ} {s s' : State} → l ≡ m
     → Moved last l lefts rights stack s lefts' rights' stack' s'
@@ -89,18 +61,5 @@ pub as_letter : {last : ℕ} {l m : Letter} {lefts rights stack lefts' rights' s
 as_letter {last} {l} {m} {lefts} {rights} {stack} {lefts'} {rights'} {stack'} {s} {s'} e h =
     subst (λ (k : Letter). Moved last k lefts rights stack s lefts' rights' stack' s') e h
 
--- The letter of each way of the step.
-pub letter_first : (c : ℕ) → c ≡ 97 → join_letter c ≡ step_letter c
-letter_first c p = simp (eq-eqb c 97 p)
-
-pub letter_second : (c : ℕ) → (c ≡ 97 → ⊥) → c ≡ 98 → join_letter c ≡ step_letter c
-letter_second c p q = simp (ne_eqb c 97 p, eq-eqb c 98 q)
-
-pub letter_parted : (c : ℕ) → (c ≡ 97 → ⊥) → (c ≡ 98 → ⊥) → part_letter c ≡ step_letter c
-letter_parted c p q = simp (ne_eqb c 97 p, ne_eqb c 98 q)
-
 pub letter_b : (c : ℕ) → (c ≡ 97 → ⊥) → 'b ≡ join_letter c
 letter_b c p = simp (ne_eqb c 97 p)
-
-pub letter_B : (c : ℕ) → (c ≡ 65 → ⊥) → 'B ≡ part_letter c
-letter_B c p = simp (ne_eqb c 65 p)

@@ -9,8 +9,8 @@ use Rattle.group.specs.inside.PowerLists.{side_of}
 use Rattle.group.specs.Limits.{limit}
 use Rattle.forest.specs.declared.powers.Hand.{Hand}
 use Rattle.forest.specs.inside.Filling.{cells}
-use Rattle.forest.specs.inside.Forest.{Bush, right_part, first_bush, later_bushes}
-use Rattle.forest.specs.inside.Cells.{Stands, StackStands, Parted, Popped, Pushed, Made}
+use Rattle.forest.specs.inside.Forest.{Bush, first_bush, later_bushes}
+use Rattle.forest.specs.inside.Cells.{Stands, StackStands, Popped, Pushed, Made}
 use Rattle.forest.specs.inside.Cursor.{next_bush, next_rest, power_from, power_on}
 use Rattle.forest.specs.inside.Seeking.{Raises, TurnReady, Turned, PowerRoom, PowerPut}
 use Rattle.forest.proofs.Stored.{stands_below}
@@ -33,30 +33,12 @@ joined_turn {lefts} {rights} {stack} {hand} {q} {h} {lefts'} {rights'} {used} p 
       );
 }
 
-pub parted_turn : {lefts rights stack : List ℕ} {hand : Hand} {left right : ℕ} {stack' : List ℕ} {h : ℕ}
-    → Parted limit lefts rights hand.bush left right → Pushed stack hand.height right stack' h
-    → Turned a_side lefts rights stack hand lefts rights stack' (record { used = hand.used; height = h; bush = left })
-parted_turn {lefts} {rights} {stack} {hand} q p = record {
-  low = omega arith;
-  high = omega arith;
-  keeps = λ x code s. s;
-  turns = λ t ts z x y.
-      let o = q hand.used t z.0 x in
-      (o.0, p.puts limit lefts rights hand.used (right_part t) ts o.1 y, p.high);
-}
-
 -- The side that a turn goes by.
 pub turned_b : (n : ℕ) {lefts rights stack : List ℕ} {hand : Hand} {lefts' rights' stack' : List ℕ} {hand' : Hand}
     → n ≡ 0 → Turned b_side lefts rights stack hand lefts' rights' stack' hand'
     → Turned (side_of n) lefts rights stack hand lefts' rights' stack' hand'
 turned_b zero e m = m
 turned_b (suc n) e m = absurd (omega arith)
-
-pub turned_a : (n : ℕ) {lefts rights stack : List ℕ} {hand : Hand} {lefts' rights' stack' : List ℕ} {hand' : Hand}
-    → (n ≡ 0 → ⊥) → Turned a_side lefts rights stack hand lefts' rights' stack' hand'
-    → Turned (side_of n) lefts rights stack hand lefts' rights' stack' hand'
-turned_a zero e m = absurd (e refl)
-turned_a (suc n) e m = m
 
 -- What may be parted more than once may be parted now, and its left part later.
 raises_first : (s : Side) (n : ℕ) (t : Bush) → Raises s (suc n) t → Raises s 1 t

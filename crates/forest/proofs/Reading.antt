@@ -133,17 +133,3 @@ module _ {last : ℕ} {lefts rights stack₀ : List ℕ} {low : ℕ} {b₀ a₀ 
           λ x j h l. zeros x j h,
         );
   }
-
-  -- Every entry is written.
-  pub reading_ends : end ≤ i → TablesRead last lefts rights stack₀ low b₀ a₀ end stack b a i height
-  reading_ends p = record {
-    within = w.here;
-    takes = λ ts s.
-        let v = w.takes ts s in
-        let e : i ≡ end = omega (arith, w.here) in (
-          subst (λ (j : ℕ). b ≡ filled j (tip_at b_side ts) b₀) e v.0,
-          subst (λ (j : ℕ). a ≡ filled j (tip_at a_side ts) a₀) e v.1,
-          subst (λ (j : ℕ). StackStands last lefts rights (cells_for last) (bushes_from j ts) stack height) e v.2,
-          λ x j h l. absurd (omega arith),
-        );
-  }

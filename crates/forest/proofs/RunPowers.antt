@@ -1,10 +1,9 @@
 -- The loop over the powers: both stacks stand for the row of those read so far. Assumes nothing.
-use mathlib.Core.Path.{◌≡◌, refl, sym, ◌∙◌, ap, subst}
+use mathlib.Core.Path.{◌≡◌, sym, ◌∙◌, ap, subst}
 use mathlib.Core.List.{List, ◌∷◌}
 use Prim.Native.Nat.{ℕ, zero, suc, ◌+◌, ◌≤◌, ◌<◌}
 use native.Mathlib.Omega.{arith}
-use lib.ListN.{get_or, length, drop}
-use lib.Seq.{drop-length}
+use lib.ListN.{get_or, length}
 use Rattle.group.specs.Forms.{Side, b_side, a_side}
 use Rattle.group.specs.Powers.{SignedPower, signed_power, exponent_sizes}
 use Rattle.group.specs.inside.PowerLists.{side_of, powers_in}
@@ -40,19 +39,6 @@ pub record RunningPowers (ks es ss lefts rights before stack : List ℕ) (used f
   pub used_low : limit < used
   pub used_high : used ≤ limit + 1 + sizes_from ks es ss i
   pub stood : Stood lefts rights used before stack front height (cursor_from ks es ss i)
-
-pub powers_start : {ks es ss lefts rights before stack : List ℕ} → PowersReady ks es ss lefts rights before stack
-    → RunningPowers ks es ss lefts rights before stack (limit + 1) 0 0 (length ks)
-powers_start {ks} {es} {ss} {lefts} {rights} {before} {stack} a = record {
-  ready = a;
-  here = omega arith;
-  used_low = omega arith;
-  used_high = omega arith;
-  stood =
-      subst (λ (ps : List SignedPower). Stood lefts rights (limit + 1) before stack 0 0 (cursor_of ps))
-      (sym (ap (λ (xs : List ℕ). powers_in xs (drop (length ks) es) (drop (length ks) ss)) (drop-length ks)))
-      (refl, refl);
-}
 
 -- Room for a move of a cursor behind n units, and for a power of e more.
 module _ (lefts rights : List ℕ) (used : ℕ) (before stack : List ℕ) (front height n : ℕ) where

@@ -1,11 +1,12 @@
 -- The loop over the letters: the scratch holds the row of the letters read so far, and that row leaves room for the
 -- next. Assumes nothing.
 use mathlib.Core.Path.{◌≡◌, refl, sym, ◌∙◌, subst, ap}
-use mathlib.Core.List.{List, [], ◌∷◌}
+use mathlib.Core.List.{List, [], ◌∷◌, ◌++◌}
 use Prim.Native.Nat.{ℕ, suc, ◌+◌, ◌-◌, ◌≤◌, ◌<◌}
 use native.Mathlib.Omega.{arith}
-use lib.ListN.{get_or, length, drop, length-drop}
-use lib.Seq.{drop-cons, drop-length}
+use lib.ListN.{get_or, length, drop, take, length-drop, length-append}
+use lib.Seq.{drop-cons, get_or-take, take-take}
+use Rattle.std.proofs.Math.Seq.{get_or-append_seam, take-append_seam}
 use Rattle.group.specs.Letters.{Word}
 use Rattle.forest.specs.declared.row.State.{State}
 use Rattle.forest.specs.inside.Filling.{cells_for}
@@ -63,22 +64,6 @@ held_ready {last} n (row x y ts) {word} {lefts} {rights} {stack} s p i scratch l
   second_high = omega (arith, stands_below last lefts rights s.used y s.second low k);
 }
 
-pub run_starts : {last : ℕ} {word lefts rights stack : List ℕ} → Scratch last word lefts rights stack
-    → Running last word lefts rights stack (record { used = last + 1; height = 0; first = 0; second = 0 }) (length word)
-run_starts {last} {word} {lefts} {rights} {stack} scratch = record {
-  here = omega arith;
-  scratch = scratch;
-  used_low = omega arith;
-  used_high = omega arith;
-  held =
-      subst
-      (λ (w : List ℕ).
-      Held last lefts rights stack (record { used = last + 1; height = 0; first = 0; second = 0 })
-      (row_of_word (step_word w)))
-      (sym (drop-length word))
-      ((refl, omega arith), (refl, omega arith), refl);
-}
-
 module _ {last : ℕ} {word lefts rights stack : List ℕ} {s : State} {i : ℕ}
     (r : Running last word lefts rights stack s i) (p : 0 < i) where
   irreducible : IrreducibleRow (length word - i) (row_of_word (read_from word i))
@@ -113,6 +98,48 @@ module _ {last : ℕ} {word lefts rights stack : List ℕ} {s : State} {i : ℕ}
         (row_raisable last (length word - i) (row_of_word (read_from word i)) (omega (arith, r)) irreducible)
         r.held);
   }
+
+-- The bytes that are left to be read, from the right end on, are the front of the word.
+pub record Unread (word rest : List ℕ) : Type 0 where
+  pub front : rest ≡ take (length rest) word
+
+-- One byte more is read: the last of them.
+module _ {word rest : List ℕ} (rest' : List ℕ) (byte : ℕ) (u : Unread word rest) (e : rest ≡ rest' ++ (byte ∷ [])) where
+  pub unread_shorter : length rest ≡ length rest' + 1
+  unread_shorter = omega (arith, ap length e, length-append rest' (byte ∷ []))
+
+  pub unread_byte : get_or word (length rest - 1) 0 ≡ byte
+  unread_byte =
+      ap (λ (i : ℕ). get_or word i 0) (let p : length rest - 1 ≡ length rest' = omega (arith, unread_shorter) in p)
+      ∙ sym (get_or-take (length rest) word (length rest') 0 (omega (arith, unread_shorter)))
+      ∙ ap (λ (s : List ℕ). get_or s (length rest') 0) (sym u.front ∙ e)
+      ∙ get_or-append_seam rest' byte [] 0
+
+  pub unread_front : Unread word rest'
+  unread_front = record {
+    front =
+        sym (take-append_seam rest' (byte ∷ []))
+        ∙ ap (take (length rest')) (sym e ∙ u.front)
+        ∙ take-take (length rest') (length rest) word (omega (arith, unread_shorter));
+  }
+
+-- A turn of the loop over the bytes, from the last to the first.
+module _ {last : ℕ} {word lefts rights stack : List ℕ} {s : State} {rest : List ℕ} (rest' : List ℕ) (byte : ℕ)
+    (r : Running last word lefts rights stack s (length rest)) (u : Unread word rest)
+    (e : rest ≡ rest' ++ (byte ∷ [])) where
+  pub byte_ready : Ready last lefts rights stack s
+  byte_ready = run_ready r (omega (arith, unread_shorter rest' byte u e))
+
+  pub byte_more : {lefts' rights' stack' : List ℕ} {s' : State} → length lefts' ≡ length lefts
+      → length rights' ≡ length rights → length stack' ≡ length stack
+      → Moved last (step_letter byte) lefts rights stack s lefts' rights' stack' s'
+      → Running last word lefts' rights' stack' s' (length rest')
+  byte_more {lefts'} {rights'} {stack'} {s'} el er es m =
+      subst (Running last word lefts' rights' stack' s')
+      (let n : length rest - 1 ≡ length rest' = omega (arith, unread_shorter rest' byte u e) in n)
+      (run_more r (omega (arith, unread_shorter rest' byte u e)) el er es
+      (subst (λ (b : ℕ). Moved last (step_letter b) lefts rights stack s lefts' rights' stack' s')
+      (sym (unread_byte rest' byte u e)) m))
 
 -- The scratch, with the row of the word in it.
 pub record Ended (last : ℕ) (word lefts rights stack : List ℕ) (s : State) : Type 0 where

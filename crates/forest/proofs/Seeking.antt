@@ -156,8 +156,10 @@ moved_zeros {before} {stack} {front} {height} {end} {before'} {h} m k before'' f
 -- The tips skipped are passed with any stack.
 pub skips : {before : List ℕ} {front height i : ℕ}
     → ((stack : List ℕ) → Going before stack front height before stack i height)
-    → (k : ℕ) → k ≤ i → i ≤ front → Storing before i height k → Skipped before front height k i
-skips g k l f s = record { low = l; high = f; moves = λ stack. (g stack).moves; storing = s }
+    → (k j : ℕ) → i ≡ j → k ≤ i → i ≤ front → Storing before i height k → Skipped before front height k j
+skips {before} {front} {height} g k j e l f s =
+    subst (Skipped before front height k) e
+    (record { low = l; high = f; moves = λ stack. (g stack).moves; storing = s })
 
 -- A move back: the tips skipped, then the bushes stored.
 pub skipped_moves : {before : List ℕ} {front height k i : ℕ} → Skipped before front height k i

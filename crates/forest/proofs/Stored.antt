@@ -107,12 +107,6 @@ push_some stack height bush p some = record { high = omega arith; puts = puts }
     puts last lefts rights used (fork x y) ts h s =
         stack_push last lefts rights used (fork x y) ts stack height bush p h s
 
--- The parts of a bush; k is the code as an index.
-pub parted_tip : (last : ℕ) (lefts rights : List ℕ) (code : ℕ) → code ≤ last
-    → Parted last lefts rights code (code + 1) 0
-parted_tip last lefts rights code p used (tip n) l h = ((omega (arith, h.0), omega arith), (refl, omega arith))
-parted_tip last lefts rights code p used (fork x y) l h = absurd (omega (arith, h.0))
-
 pub parted_fork : (last : ℕ) (lefts rights : List ℕ) (code k : ℕ) → last < code → k ≡ code
     → Parted last lefts rights code (get_or lefts k 0) (get_or rights k 0)
 parted_fork last lefts rights code k p e used (tip n) l h = absurd (omega (arith, h.0, h.1))

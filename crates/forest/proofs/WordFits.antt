@@ -2,7 +2,7 @@
 use mathlib.Core.Path.{◌≡◌, refl, sym, ◌∙◌, ap}
 use mathlib.Core.Bool.{Bool, true, false, cond, true≢false}
 use mathlib.Core.List.{List}
-use Prim.Native.Nat.{ℕ, ◌+◌, ◌≤◌, ◌<◌}
+use Prim.Native.Nat.{ℕ, ◌≤◌, ◌<◌}
 use native.Mathlib.Decide.{dec_le}
 use native.Mathlib.Omega.{arith}
 use lib.ListN.{length}
@@ -51,41 +51,19 @@ tip_low n = go (dec_le n limit)
     go (yes h) = omega (arith, tip_letters n h)
     go (no h) = omega (arith, tip_limit n (omega arith))
 
--- The tests, one after another; l is the last tip.
-module _ (last l nl nr ns : ℕ) (e : l ≡ last) where
-  pub short_lefts : nl < l + l + 1 → false ≡ fits_for last nl nr ns
-  short_lefts h = simp (lt-ltb nl (cells_for last) (omega arith))
-
-  pub short_rights : l + l + 1 ≤ nl → nr < l + l + 1 → false ≡ fits_for last nl nr ns
-  short_rights g h = simp (le-ltb nl (cells_for last) (omega arith), lt-ltb nr (cells_for last) (omega arith))
-
-  module _ (g : l + l + 1 ≤ nl) (h : l + l + 1 ≤ nr) where
-    cells_fit : fits_for last nl nr ns ≡ cond (ltb ns (room_for last)) false true
-    cells_fit = simp (le-ltb nl (cells_for last) (omega arith), le-ltb nr (cells_for last) (omega arith))
-
-    pub short_stack : ns < l + 2 → false ≡ fits_for last nl nr ns
-    short_stack k = sym (cells_fit ∙ simp (lt-ltb ns (room_for last) (omega arith)))
-
-    pub all_fit : l + 2 ≤ ns → true ≡ fits_for last nl nr ns
-    all_fit k = sym (cells_fit ∙ simp (le-ltb ns (room_for last) (omega arith)))
-
--- It is at most a number that the letters are at most.
-pub tip_within : (n last : ℕ) → n ≤ last → last_tip_value n ≤ last
-tip_within n last h = go (dec_le n limit)
-  where
-    go : Dec (n ≤ limit) → last_tip_value n ≤ last
-    go (yes k) = omega (arith, tip_letters n k)
-    go (no k) = omega (arith, tip_limit n (omega arith))
+-- Sizes that are long enough.
+all_fit : (last nl nr ns : ℕ) → cells_for last ≤ nl → cells_for last ≤ nr → room_for last ≤ ns
+    → fits_for last nl nr ns ≡ true
+all_fit last nl nr ns l r s =
+    simp (le-ltb nl (cells_for last) l, le-ltb nr (cells_for last) r, le-ltb ns (room_for last) s)
 
 -- Scratch for a last tip that is high enough fits the word.
 pub fits_for_lem : (last : ℕ) (word lefts rights stack : List ℕ) → last_tip_value (length word) ≤ last
     → cells_for last ≤ length lefts → cells_for last ≤ length rights → room_for last ≤ length stack
     → Fits word lefts rights stack
 fits_for_lem last word lefts rights stack h l r s =
-    sym
-    (all_fit (last_tip_value (length word)) (last_tip_value (length word)) (length lefts) (length rights) (length stack)
-    refl
-    (omega arith) (omega arith) (omega arith))
+    all_fit (last_tip_value (length word)) (length lefts) (length rights) (length stack) (omega arith) (omega arith)
+    (omega arith)
 
 -- More letters do not need less.
 tip_rises : (n m : ℕ) → n ≤ m → last_tip_value n ≤ last_tip_value m

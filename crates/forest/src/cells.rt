@@ -2,6 +2,8 @@
 // cell that holds the codes of its two parts, the left one in `lefts`, the right one in `rights`. A cell is written
 // once. For a word `last` is its number of letters, so that a short word touches short scratch; for powers it is the
 // limit.
+// Kept codes in two slices: no heap is allowed, and `fill_tables`, which is lent the slices, is named in the README.
+// Kept apart: in a struct of both each contract would add what a `&mut` parameter keeps by itself, its name and length.
 ghost use Rattle.std.specs.Prelude.{◌≡◌, ◌≤◌, ◌<◌, length};
 ghost use Rattle.group.specs.Limits.{limit};
 ghost use Rattle.forest.specs.inside.Filling.{cells_for};
@@ -33,13 +35,6 @@ pub struct Cell {
     pub used: usize,
 }
 
-// A code as an index.
-pub fn wide(x: u16) -> usize
-    ensures { result ≡ x }
-{
-    x as usize
-}
-
 // The bush on top of the stack; behind the row stand tips of exponent 0.
 pub fn pop(stack: &[u16], height: usize) -> Top
     requires { height ≤ length stack.now }
@@ -60,10 +55,8 @@ pub fn push(stack: &mut [u16], height: usize, bush: u16) -> usize
     requires { height < length stack.old }
     ensures { Pushed stack.old height bush stack.new result }
 {
-    if height == 0 {
-        if bush == 0 {
-            return 0;
-        }
+    if height == 0 && bush == 0 {
+        return 0;
     }
     stack[height] = bush;
     height + 1
@@ -80,7 +73,7 @@ pub fn part(last: u16, lefts: &[u16], rights: &[u16], bush: u16) -> Parts
             right: 0,
         };
     }
-    let k = wide(bush);
+    let k = bush as usize;
     Parts {
         left: lefts[k],
         right: rights[k],
@@ -101,15 +94,11 @@ pub fn join(
     ensures { Made last lefts.old rights.old used left right lefts.new
         rights.new result.used result.bush }
 {
-    if right == 0 {
-        if 0 < left {
-            if left <= last {
-                return Cell {
-                    bush: left - 1,
-                    used,
-                };
-            }
-        }
+    if right == 0 && 0 < left && left <= last {
+        return Cell {
+            bush: left - 1,
+            used,
+        };
     }
     lefts[used] = left;
     rights[used] = right;

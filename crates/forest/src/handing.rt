@@ -2,10 +2,9 @@
 // lent.
 ghost use Rattle.forest.specs.inside.Handing.{HandedOver, PileReady, PileRead};
 
-use crate::Filling;
 use crate::cells::LAST_TIP;
 use crate::leaves::{Levels, read_off};
-use refusals::{LIMIT, Refusal};
+use refusals::{Failure, LIMIT, Refusal};
 
 // The entries of an own table: one for each index up to the limit.
 const TABLE: usize = LIMIT + 1;
@@ -17,22 +16,19 @@ fn hand_over(
     a: &[u16; TABLE],
     b_table: &mut [u16],
     a_table: &mut [u16],
-) -> Filling
+) -> Result<usize, Failure>
     ensures { HandedOver levels.read levels.height b.now a.now
         b_table.old a_table.old b_table.new a_table.new result }
 {
     if levels.height != 0 {
-        return Filling::Refused(Refusal::HighIndex);
+        return Err(Failure::Refused(Refusal::HighIndex));
     }
-    if b_table.len() < TABLE {
-        return Filling::Refused(Refusal::ShortTable);
-    }
-    if a_table.len() < TABLE {
-        return Filling::Refused(Refusal::ShortTable);
+    if b_table.len() < TABLE || a_table.len() < TABLE {
+        return Err(Failure::Refused(Refusal::ShortTable));
     }
     copying::copy_front(b, b_table, TABLE);
     copying::copy_front(a, a_table, TABLE);
-    Filling::Filled(levels.read)
+    Ok(levels.read)
 }
 
 // The row of powers on the stack, read off and handed over.
@@ -43,7 +39,7 @@ pub fn read_pile(
     height: usize,
     b_table: &mut [u16],
     a_table: &mut [u16],
-) -> Filling
+) -> Result<usize, Failure>
     requires { PileReady lefts.now rights.now stack.old height }
     ensures { PileRead lefts.now rights.now stack.old height
         b_table.old a_table.old b_table.new a_table.new result }

@@ -2,7 +2,7 @@
 ghost use Rattle.std.specs.Prelude.{◌≤◌, ◌<◌, length};
 ghost use Rattle.forest.specs.inside.Leaves.{Standing, TipRead, StemPassed, ZerosPut, TipsReady, TablesRead};
 
-use crate::cells::{pop, push, wide};
+use crate::cells::{pop, push};
 
 // The first tip of a bush: the left edges above it, its exponent, and the height of the stack with the bushes behind.
 #[derive(Drop)]
@@ -21,6 +21,7 @@ pub struct Levels {
 
 // What is left of a bush below its stem: cells that each have the cell before them on the left and a tip of exponent
 // 0 on the right. With no bush behind them these tips are not stored. No turn of the loop waits for a load before it.
+// Kept a `while`: a range down to `last` would end there also for a bush below it.
 fn below_stem(last: u16, lefts: &[u16], rights: &[u16], bush: u16, height: usize) -> u16
     requires { (bush < length lefts.now) × (bush < length rights.now) }
     ensures { StemPassed last lefts.now rights.now bush height result }
@@ -30,15 +31,11 @@ fn below_stem(last: u16, lefts: &[u16], rights: &[u16], bush: u16, height: usize
         return code;
     }
     while last < code {
-        let next = code - 1;
-        let k = wide(code);
-        if rights[k] != 0 {
+        let k = code as usize;
+        if rights[k] != 0 || lefts[k] != code - 1 {
             return code;
         }
-        if lefts[k] != next {
-            return code;
-        }
-        code = next;
+        code -= 1;
     }
     code
 }
@@ -60,7 +57,7 @@ pub fn descend(
     let mut edges = bush - code;
     let mut height = low;
     while last < code {
-        let k = wide(code);
+        let k = code as usize;
         height = push(stack, height, rights[k]);
         code = lefts[k];
         edges += 1;
@@ -77,11 +74,7 @@ pub fn zero_rest(table: &mut [u16], low: usize, high: usize)
     requires { (low ≤ high) × (high ≤ length table.old) }
     ensures { ZerosPut table.old low high table.new }
 {
-    let mut i = low;
-    while i < high {
-        table[i] = 0;
-        i += 1;
-    }
+    table[low..high].fill(0);
 }
 
 // The tips of the bushes on the stack, from the left, up to `end` of them: the left edges above tip i and its exponent
@@ -102,8 +95,7 @@ pub fn read_off(
         a_table.new result.read result.height }
 {
     let mut height = low;
-    let mut i = 0;
-    while i < end {
+    for i in 0..end {
         if height == 0 {
             zero_rest(b_table, i, end);
             zero_rest(a_table, i, end);
@@ -114,7 +106,6 @@ pub fn read_off(
         b_table[i] = l.edges;
         a_table[i] = l.exponent;
         height = l.height;
-        i += 1;
     }
-    Levels { read: i, height }
+    Levels { read: end, height }
 }

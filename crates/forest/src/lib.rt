@@ -5,7 +5,7 @@ ghost use Rattle.std.specs.Prelude.{◌≡◌};
 ghost use Rattle.forest.specs.inside.Filling.{last_tip_value, fits_for, FilledTables};
 ghost use Rattle.forest.specs.inside.FillingPowers.{FilledPowers};
 
-use refusals::{LIMIT, Refusal, Verdict};
+use refusals::{Failure, LIMIT};
 
 mod cells;
 mod fits;
@@ -26,14 +26,23 @@ pub const FRONT_ROOM: usize = LIMIT + 1;
 // The entries of `stack`, scratch of `fill_powers`.
 pub const ROW_ROOM: usize = LIMIT + LIMIT + 4;
 
-// The answer of `fill_tables` and of `fill_powers`: how many levels of the form were read; a refusal of the word, the
-// powers or the tables; or scratch that is too short for the word or of other sizes than for powers, or powers that are
-// unfit.
-#[derive(Clone, Copy)]
-pub enum Filling {
-    Filled(usize),
-    Refused(Refusal),
-    Unfit,
+// Scratch of `fill_tables` that serves every word.
+#[derive(Drop)]
+pub struct Scratch {
+    pub lefts: [u16; CELLS],
+    pub rights: [u16; CELLS],
+    pub stack: [u16; ROOM],
+}
+
+impl Scratch {
+    // Cleared; any content would do.
+    pub fn new() -> Scratch {
+        Scratch {
+            lefts: [0; CELLS],
+            rights: [0; CELLS],
+            stack: [0; ROOM],
+        }
+    }
 }
 
 // Whether scratch of these lengths is long enough for a word of so many letters. Of the lengths CELLS, CELLS and ROOM
@@ -41,17 +50,9 @@ pub enum Filling {
 pub fn word_fits(letters: usize, lefts: usize, rights: usize, stack: usize) -> bool
     ensures { result ≡ fits_for (last_tip_value letters) lefts rights stack }
 {
-    let last = fits::last_tip(letters);
-    if lefts < last + last + 1 {
-        return false;
-    }
-    if rights < last + last + 1 {
-        return false;
-    }
-    if stack < last + 2 {
-        return false;
-    }
-    true
+    let last = letters.min(LIMIT);
+    let cells = last + last + 1;
+    cells <= lefts && cells <= rights && last + 2 <= stack
 }
 
 // The exponents of the word's reduced form: entry i of the tables is b_i and a_i, for each i up to the number of
@@ -63,28 +64,26 @@ pub fn fill_tables(
     lefts: &mut [u16],
     rights: &mut [u16],
     stack: &mut [u16],
-) -> Filling
+) -> Result<usize, Failure>
     ensures { FilledTables word.now b_table.old a_table.old
         lefts.old rights.old stack.old b_table.new
         a_table.new lefts.new rights.new stack.new result }
 {
     if !word_fits(word.len(), lefts.len(), rights.len(), stack.len()) {
-        return Filling::Unfit;
+        return Err(Failure::Unfit);
     }
-    let v = letters::judge(word, b_table.len(), a_table.len());
-    if let Verdict::Refused(r) = v {
-        return Filling::Refused(r);
-    }
+    letters::judge(word, b_table.len(), a_table.len())?;
     let last = word.len() as u16;
     let height = row::run(word, last, lefts, rights, stack);
     let end = word.len() + 1;
     let levels = leaves::read_off(last, lefts, rights, stack, height, b_table, a_table, end);
-    Filling::Filled(levels.read)
+    Ok(levels.read)
 }
 
 // The exponents of the reduced form of a product of powers: entry i of the tables is b_i and a_i, for each i up to the
 // limit. Power i is x_k^e where its side is 0, else x_k^−e, k and e the entries i of the indices and the exponents. The
 // scratch is lent with any content; what it holds at exit is open.
+// Kept three slices, with numbers for the sides: the README and docs/DECISIONS.md name this call.
 pub fn fill_powers(
     indices: &[u16],
     exponents: &[u16],
@@ -95,16 +94,16 @@ pub fn fill_powers(
     rights: &mut [u16],
     before: &mut [u16],
     stack: &mut [u16],
-) -> Filling
+) -> Result<usize, Failure>
     ensures { FilledPowers indices.now exponents.now sides.now
         b_table.old a_table.old lefts.old rights.old
         before.old stack.old b_table.new a_table.new result }
 {
     if !fits::scratch_fits(lefts.len(), rights.len(), before.len(), stack.len()) {
-        return Filling::Unfit;
+        return Err(Failure::Unfit);
     }
     if !fits::powers_fit(indices, exponents, sides) {
-        return Filling::Unfit;
+        return Err(Failure::Unfit);
     }
     let height = powers::pile_powers(indices, exponents, sides, lefts, rights, before, stack);
     handing::read_pile(lefts, rights, stack, height, b_table, a_table)

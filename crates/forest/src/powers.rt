@@ -1,25 +1,14 @@
 // A row of bushes with a cursor, for powers of any generator. The bushes in front of the cursor stand on `before`, the
 // nearest on top, so that its height is the cursor's place; the bushes from the cursor on stand on `stack`.
-ghost use Rattle.std.specs.Prelude.{◌≡◌, ◌+◌, ◌≤◌, ◌<◌, length};
+ghost use Rattle.std.specs.Prelude.{◌+◌, ◌≤◌, ◌<◌, length};
 ghost use Rattle.group.specs.inside.PowerLists.{side_of};
 ghost use Rattle.forest.specs.inside.Seeking.{Seekable, Sought, MovedOn, Skipped, Storing};
 ghost use Rattle.forest.specs.inside.Seeking.{TurnReady, Turned, PowerRoom, PowerPut};
 ghost use Rattle.forest.specs.inside.Seeking.{PowersReady, PowersPiled};
 
-use crate::cells::{LAST_TIP, join, part, pop, push, wide};
+use crate::cells::{LAST_TIP, join, part, pop, push};
 use crate::leaves::zero_rest;
 use refusals::LIMIT;
-
-// The place, up to k, that the bushes of `stack` reach from the cursor on.
-fn reach(front: usize, height: usize, k: usize) -> usize
-    requires { front ≤ k }
-    ensures { (front ≤ result) × (result ≤ k) × (result ≤ front + height) × (result < k → result ≡ front + height) }
-{
-    if height < k - front {
-        return front + height;
-    }
-    k
-}
 
 // The cursor moved on to place `end`, no further than the bushes of `stack` reach. The height of `stack` that is left.
 fn move_on(before: &mut [u16], stack: &[u16], front: usize, height: usize, end: usize) -> usize
@@ -27,12 +16,10 @@ fn move_on(before: &mut [u16], stack: &[u16], front: usize, height: usize, end: 
         × (height ≤ length stack.now) }
     ensures { MovedOn before.old stack.now front height end before.new result }
 {
-    let mut i = front;
     let mut h = height;
-    while i < end {
+    for i in front..end {
         h -= 1;
         before[i] = stack[h];
-        i += 1;
     }
     h
 }
@@ -43,7 +30,7 @@ fn go_on(before: &mut [u16], stack: &[u16], front: usize, height: usize, k: usiz
     ensures { Sought before.old stack.now front height k before.new
         stack.now result }
 {
-    let end = reach(front, height, k);
+    let end = front + height.min(k - front);
     let left = move_on(before, stack, front, height, end);
     zero_rest(before, end, k);
     left
@@ -55,18 +42,15 @@ fn skip_zeros(before: &[u16], front: usize, height: usize, k: usize) -> usize
     requires { (k ≤ front) × (front ≤ length before.now) }
     ensures { Skipped before.now front height k result }
 {
-    let mut i = front;
     if height != 0 {
-        return i;
+        return front;
     }
-    while k < i {
-        let next = i - 1;
-        if before[next] != 0 {
-            return i;
+    for i in (k..front).rev() {
+        if before[i] != 0 {
+            return i + 1;
         }
-        i = next;
     }
-    i
+    k
 }
 
 // The cursor moved back to place k, each bush stored. The height of `stack` that is reached.
@@ -76,10 +60,8 @@ fn move_back(before: &[u16], stack: &mut [u16], front: usize, height: usize, k: 
     ensures { Sought before.now stack.old front height k before.now
         stack.new result }
 {
-    let mut i = front;
     let mut h = height;
-    while k < i {
-        i -= 1;
+    for i in (k..front).rev() {
         stack[h] = before[i];
         h += 1;
     }
@@ -169,10 +151,8 @@ fn power(
         height: p.height,
         bush: p.bush,
     };
-    let mut left = e;
-    while 0 < left {
+    for _ in 0..e {
         hand = turn(side, lefts, rights, stack, hand);
-        left -= 1;
     }
     let top = push(stack, hand.height, hand.bush);
     Behind {
@@ -200,10 +180,8 @@ pub fn pile_powers(
     let mut used = LIMIT + 1;
     let mut front = 0;
     let mut height = 0;
-    let mut i = indices.len();
-    while 0 < i {
-        i -= 1;
-        let k = wide(indices[i]);
+    for i in (0..indices.len()).rev() {
+        let k = indices[i] as usize;
         let low = seek(before, stack, front, height, k);
         let b = power(sides[i], lefts, rights, stack, used, low, exponents[i]);
         used = b.used;

@@ -84,13 +84,10 @@ fn step(
     ensures { Moved last (step_letter byte) lefts.old rights.old stack.old s
         lefts.new rights.new stack.new result }
 {
-    if byte == b'a' {
-        return joined(byte, last, s, lefts, rights, stack);
+    match byte {
+        b'a' | b'b' => joined(byte, last, s, lefts, rights, stack),
+        _ => parted(byte, last, s, lefts, rights, stack),
     }
-    if byte == b'b' {
-        return joined(byte, last, s, lefts, rights, stack);
-    }
-    parted(byte, last, s, lefts, rights, stack)
 }
 
 // The row of a word, read from its right end; all its bushes go onto the stack. The height of the stack.
@@ -110,10 +107,8 @@ pub fn run(
         first: 0,
         second: 0,
     };
-    let mut i = word.len();
-    while 0 < i {
-        i -= 1;
-        s = step(word[i], last, s, lefts, rights, stack);
+    for &byte in word.iter().rev() {
+        s = step(byte, last, s, lefts, rights, stack);
     }
     let low = push(stack, s.height, s.second);
     push(stack, low, s.first)

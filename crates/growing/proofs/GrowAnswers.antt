@@ -9,9 +9,10 @@ use mathlib.Core.Logic.{◌⊎◌}
 use Prim.Native.Nat.{ℕ, ◌+◌, ◌*◌, ◌<◌, ◌≤◌}
 use native.Mathlib.Omega.{arith}
 use lib.ListN.{length}
+use Rattle.std.specs.Prelude.{Result}
+use Rattle.refusals.specs.declared.Refusal.{Refusal}
 use Rattle.lists.specs.Entries.{total}
 use Rattle.lists.specs.Tables.{filled}
-use Rattle.refusals.specs.declared.Reply.{Reply}
 use Rattle.refusals.specs.Outcomes.{Outcome, accepted, refused, valued, then, reply_of}
 use Rattle.refusals.proofs.Outcomes.{valued_refused}
 use Rattle.trees.specs.Pairs.{max_carets}
@@ -41,7 +42,7 @@ abbrev from_grown : (numbers summary : List ℕ) → Outcome (List ℕ) → Outc
 from_grown numbers summary o = then o (λ g. room_for g numbers summary)
 
 -- The check refuses.
-pub answer_refused : {numbers summary : List ℕ} {n p : ℕ} (k : ℕ) (r : Reply)
+pub answer_refused : {numbers summary : List ℕ} {n p : ℕ} (k : ℕ) (r : Result ℕ Refusal)
     → reply_of r ≡ valued length (packed_shape numbers summary) → reply_of r ≡ refused n p
     → Repacked (growing numbers summary k) numbers summary numbers summary r
 answer_refused {numbers} {summary} {n} {p} k r h e =
@@ -54,14 +55,14 @@ module _ {numbers summary : List ℕ} {n : ℕ} (c : Checked numbers summary n) 
   read_tree = ap (from_read numbers summary k) (c.read ∙ ap accepted (sym c.is_shape))
 
   -- There is no leaf k.
-  pub answer-beyond : (r : Reply) → n ≤ 2 * k → reply_of r ≡ refused 15 0
+  pub answer-beyond : (r : Result ℕ Refusal) → n ≤ 2 * k → reply_of r ≡ refused 15 0
       → Repacked (growing numbers summary k) numbers summary numbers summary r
   answer-beyond r h e =
       repacked_refused r
       (read_tree ∙ ap (from_grown numbers summary) (grown-beyond c.tree k (omega (arith, c.nodes)))) e
 
   -- There is no caret more.
-  pub answer_full : (r : Reply) → 2 * max_carets < n → reply_of r ≡ refused 15 0
+  pub answer_full : (r : Result ℕ Refusal) → 2 * max_carets < n → reply_of r ≡ refused 15 0
       → Repacked (growing numbers summary k) numbers summary numbers summary r
   answer_full r h e =
       repacked_refused r
@@ -99,7 +100,7 @@ module _ {numbers summary : List ℕ} {n : ℕ} (c : Checked numbers summary n) 
           )
 
       -- There is no room.
-      pub answer_short : (r : Reply)
+      pub answer_short : (r : Result ℕ Refusal)
           → (length numbers < numbers_of_value (n + 2)) ⊎ (length summary < numbers_of_value (n + 2))
           → reply_of r ≡ refused 7 0
           → Repacked (growing numbers summary k) numbers summary numbers summary r
@@ -112,7 +113,7 @@ module _ {numbers summary : List ℕ} {n : ℕ} (c : Checked numbers summary n) 
           (subst (λ (i : ℕ). (length numbers < numbers_of_value i) ⊎ (length summary < numbers_of_value i)) m l)) e
 
       -- The caret is grown.
-      pub answer-grown : {v : ℕ} {numbers' summary' : List ℕ} (r : Reply) → LeafAt (shape_of numbers n) k v
+      pub answer-grown : {v : ℕ} {numbers' summary' : List ℕ} (r : Result ℕ Refusal) → LeafAt (shape_of numbers n) k v
           → Room (numbers_of_value (n + 2)) numbers summary → GrewAt numbers summary n v numbers' summary'
           → reply_of r ≡ accepted (numbers_of_value (n + 2))
           → Repacked (growing numbers summary k) numbers summary numbers' summary' r
@@ -131,7 +132,7 @@ module _ {numbers summary : List ℕ} {n : ℕ} (c : Checked numbers summary n) 
           (g.summary_left ∙ ap (λ (i : ℕ). filled (numbers_of_value i) (summary_at (inserted s v)) summary) long)
 
 -- No tree within the bound has a leaf above it, so that it is 15 whatever is lent.
-pub answer_none : (numbers summary : List ℕ) (k : ℕ) (r : Reply) → max_carets < k → reply_of r ≡ refused 15 0
+pub answer_none : (numbers summary : List ℕ) (k : ℕ) (r : Result ℕ Refusal) → max_carets < k → reply_of r ≡ refused 15 0
     → Repacked (growing numbers summary k) numbers summary numbers summary r
 answer_none numbers summary k r h e = repacked_refused r (go (packed_shape numbers summary) refl) e
   where

@@ -1,7 +1,8 @@
 -- Looking for the node of a leaf in a packed shape.
 --     held_room, held_few           its summary has an entry for each number, and none counts too much
 --     holds_returned, holds_last    the number that holds the leaf: where the search stops
---     leaf_inside, leaf_found       the leaf is one of this number's, and its node is found
+--     leaf_inside, leaf_there       the leaf is one of this number's, and found there
+--     leaf_found                    its node
 -- Assumes nothing.
 use mathlib.Core.Path.{◌≡◌, sym, ap, subst}
 use mathlib.Core.List.{List}
@@ -10,12 +11,15 @@ use native.Mathlib.Omega.{arith}
 use native.Mathlib.Decide.{dec_lt}
 use lib.Count.{ones}
 use lib.ListN.{length, take, drop, get_or, length-take, take-append-drop}
+use Rattle.std.proofs.Common.{rules, Option, Some, None, IsSome}
+use Rattle.std.specs.Option.{unwrap_or}
 use Rattle.lists.specs.Entries.{total}
 use Rattle.lists.proofs.Totals.{total-append}
 use Rattle.lists.proofs.Tables.{values_length}
 use Rattle.bitrows.specs.Numbers.{number_at, numbers_of_value, bits_of}
 use Rattle.bitrows.specs.inside.Growth.{LeafAt, FoundLeaf}
 use Rattle.bitrows.proofs.Finding.{number_small, total_next, total_few, bits_leaf}
+use Rattle.bitrows.proofs.Bits.{bits_length}
 use Rattle.bitrows.proofs.Leaving.{bits_total}
 use Rattle.packed.specs.Packing.{summary_at}
 use Rattle.packed.specs.inside.Steps.{shape_of, Held}
@@ -108,6 +112,14 @@ leaf_inside {numbers} {summary} {n} {k} {j} h a = go (dec_lt (j + 1) (numbers_of
           total_front (64 * (j + 1)) s,
           held_few h.held j a.inside,
         )
+
+-- So it is found there.
+pub leaf_there : {numbers summary : List ℕ} {n k j : ℕ} (o : Option ℕ) → HeldLeaf numbers summary n k
+    → HoldsLeaf summary (numbers_of_value n) k j
+    → FoundLeaf (get_or numbers j 0) (k - (64 * j - get_or summary j 0)) (unwrap_or o 64) → IsSome o
+leaf_there (Some v) h a f = search rules
+leaf_there {numbers} {j = j} None h a f =
+    absurd (omega (arith, (f.found (leaf_inside h a)).inside, bits_length 64 (get_or numbers j 0)))
 
 -- Before a leaf of some bits stand at most its number of leaves and all carets.
 leaf_low : (m x l v : ℕ) → x < 2 ^ m → LeafAt (bits_of m x) l v → v ≤ l + ones x

@@ -16,26 +16,24 @@ fn number_of_leaf(summary: &[u16], n: usize, leaf: LeafNumber) -> usize
     requires n_bound { n ≤ 4294967295 }
     ensures { HoldsLeaf summary.now n leaf.0 result }
 {
-    let k = leaf.0 as usize;
-    let mut j = 0;
-    while j + 1 < n {
-        if k < NODES * (j + 1) - summary[j + 1] as usize {
+    let k = usize::from(leaf.0);
+    for j in 0..n - 1 {
+        if k < NODES * (j + 1) - usize::from(summary[j + 1]) {
             return j;
         }
-        j += 1;
     }
-    j
+    n - 1
 }
 
-// The node of a leaf of a packed shape with so many nodes.
+// The node of a leaf of a packed shape with so many nodes. With `Packed` in place of the two slices, which the caller
+// lends to be written, the borrow checker covers no such call.
 pub fn leaf_node(numbers: &[u64], summary: &[u16], nodes: usize, leaf: LeafNumber) -> NodeNumber
     requires { HeldLeaf numbers.now summary.now nodes leaf.0 }
     ensures { LeafAt (shape_of numbers.now nodes) leaf.0 result.0 }
 {
     let j = number_of_leaf(summary, numbers_of(nodes), leaf);
-    let before = NODES * j - summary[j] as usize;
-    let k = leaf.0 as usize;
-    NodeNumber(NODES * j + leaf_at(numbers[j], k - before))
+    let before = NODES * j - usize::from(summary[j]);
+    NodeNumber(NODES * j + leaf_at(numbers[j], usize::from(leaf.0) - before).unwrap())
 }
 
 // A number of the shape; there is none behind those used.
@@ -55,20 +53,18 @@ pub fn insert(numbers: &mut [u64], summary: &mut [u16], nodes: usize, node: Node
 {
     let used = numbers_of(nodes);
     let end = numbers_of(nodes + 2);
-    let mut j = node.0 / NODES;
-    let first = numbers[j];
+    let from = node.0 / NODES;
+    let first = numbers[from];
     let mut carry = carried(first, node);
     let grown = opened(first, node);
-    numbers[j] = grown;
-    let mut count = summary[j] + u64::count_ones(grown) as u16;
-    j += 1;
-    while j < end {
+    numbers[from] = grown;
+    let mut count = summary[from] + grown.count_ones() as u16;
+    for j in from + 1..end {
         let x = used_number(numbers, used, j);
         let y = carry + (x << 2);
         numbers[j] = y;
         summary[j] = count;
-        count += u64::count_ones(y) as u16;
+        count += y.count_ones() as u16;
         carry = x >> 62;
-        j += 1;
     }
 }

@@ -1,4 +1,3 @@
 -- Laws of hexadecimal that is read, each file after those it cites.
-pub mod Steps
 pub mod Turns
 pub mod Parts

@@ -1,6 +1,6 @@
 -- A line that comes in parts is read as the whole line is, its bytes cut to the size of the buffer; and what is read
 -- are bytes. Assumes nothing.
-use Rattle.std.proofs.Common.{◌≡◌, ℕ, zero, suc, ◌+◌, ◌*◌, ◌^◌, ◌<◌, Bool, true, false, cond, ltb, List, [], ◌∷◌, ◌++◌, length, get_or, take, sym, refl, ap, ◌∙◌, subst, ap₂, append-nil, arith, ltb-true}
+use Rattle.std.proofs.Common.{◌≡◌, ℕ, zero, suc, ◌+◌, ◌*◌, ◌%◌, ◌^◌, ◌<◌, Option, Some, None, Bool, true, false, cond, ltb, List, [], ◌∷◌, ◌++◌, length, get_or, take, sym, refl, ap, ◌∙◌, subst, ap₂, append-nil, arith, ltb-true, lt-ltb}
 use lib.Seq.{append_snoc}
 use Rattle.lines.specs.Lines.{whole_of}
 use Rattle.lines.specs.Feeding.{kept_line, kept_count}
@@ -57,72 +57,90 @@ stray_stays (c ∷ s) bytes m = stray_stays s bytes m
 next_offset_lem : (offset n : ℕ) → offset + suc n < 2 ^ 64 → next_offset offset ≡ suc offset
 next_offset_lem offset n small = omega arith
 
+-- The value of the digit that waits, 16 where none does.
+abbrev high_of : Option ℕ → ℕ
+high_of (Some v) = v
+high_of None = 16
+
+-- What waits is a digit.
+abbrev Digit : Option ℕ → Type 0
+Digit (Some v) = v < 16
+Digit None = Unit {0}
+
 -- The characters s behind those whose bytes are p.
-ended_from : (s p bytes : List ℕ) (held high offset k : ℕ) → Holding p bytes held → length bytes ≡ k
-    → offset + length s < 2 ^ 64
-    → ended (hex_take s bytes (amid_with held high offset)) ≡ cut_read k (prefixed p (hex_from high offset s))
+ended_from : (s p bytes : List ℕ) (held : ℕ) (high : Option ℕ) (offset k : ℕ) → Digit high → Holding p bytes held
+    → length bytes ≡ k → offset + length s < 2 ^ 64
+    → ended (hex_take s bytes (amid_with held high offset)) ≡ cut_read k (prefixed p (hex_from (high_of high) offset s))
 unfolding hex_take hex_from
-ended_from [] p bytes held high offset k h size small = go (ltb high 16)
+ended_from [] p bytes held (Some v) offset k digit h size small = simp (lt-ltb v 16 digit)
+ended_from [] p bytes held None offset k digit h size small =
+    ap hex_bytes (h.bytes ∙ ap₂ (λ (n : ℕ) (l : List ℕ). take n l) size (sym (append-nil p)))
+ended_from (c ∷ s) p bytes held high offset k waiting h size small =
+    cases high waiting
+    (λ p' bytes' held' high' d' h' size'. ended_from s p' bytes' held' high' (suc offset) k d' h' size' (omega arith))
   where
-    go : (waits : Bool)
-        → cond waits (stray_at offset) (hex_bytes (take held bytes))
-        ≡ cut_read k (prefixed p (cond waits (stray_at offset) (hex_bytes [])))
-    go true = refl
-    go false = ap hex_bytes (h.bytes ∙ ap₂ (λ (n : ℕ) (l : List ℕ). take n l) size (sym (append-nil p)))
-ended_from (c ∷ s) p bytes held high offset k h size small =
-    go (λ p' bytes' held' high' h' size'. ended_from s p' bytes' held' high' (suc offset) k h' size' (omega arith))
-    (ltb (hex_value c) 16) (ltb high 16) (is_blank_value c)
-  where
+    -- The value of the character.
+    v : ℕ
+    v = hex_value c
+
     Rest : Type 0
-    Rest = (p' bytes' : List ℕ) (held' high' : ℕ) → Holding p' bytes' held' → length bytes' ≡ k
+    Rest = (p' bytes' : List ℕ) (held' : ℕ) (high' : Option ℕ) → Digit high' → Holding p' bytes' held'
+        → length bytes' ≡ k
         → ended (hex_take s bytes' (amid_with held' high' (suc offset)))
-        ≡ cut_read k (prefixed p' (hex_from high' (suc offset) s))
-
-    -- The byte whose second digit this would be.
-    x : ℕ
-    x = 16 * high + hex_value c
-
-    -- What is kept behind the character, by its cases.
-    kept : (digit waits blank : Bool) → Taken
-    kept digit waits blank =
-        cond digit
-        (cond waits (taken (kept_line bytes held x) (amid_with (kept_count bytes held) 16 (next_offset offset)))
-        (taken bytes (amid_with held (hex_value c) (next_offset offset))))
-        (cond (cond waits false blank) (taken bytes (amid_with held 16 (next_offset offset)))
-        (taken bytes (strayed (amid_with held high offset))))
-
-    -- What the characters are read as, by the same cases.
-    read : (digit waits blank : Bool) → HexRead
-    read digit waits blank =
-        cond digit
-        (cond waits (byte_then x (hex_from 16 (suc offset) s)) (hex_from (hex_value c) (suc offset) s))
-        (cond (cond waits false blank) (hex_from 16 (suc offset) s) (stray_at offset))
+        ≡ cut_read k (prefixed p' (hex_from (high_of high') (suc offset) s))
 
     -- The offset that is kept is the next one.
-    from : (bytes' : List ℕ) (held' high' : ℕ)
+    from : (bytes' : List ℕ) (held' : ℕ) (high' : Option ℕ)
         → ended (hex_take s bytes' (amid_with held' high' (next_offset offset)))
         ≡ ended (hex_take s bytes' (amid_with held' high' (suc offset)))
     from bytes' held' high' =
         ap (λ (n : ℕ). ended (hex_take s bytes' (amid_with held' high' n))) (next_offset_lem offset (length s) small)
 
-    go : Rest → (digit waits blank : Bool)
-        → ended (hex_take s (kept digit waits blank).bytes (kept digit waits blank).amid)
-        ≡ cut_read k (prefixed p (read digit waits blank))
-    go rest true true blank =
-        from (kept_line bytes held x) (kept_count bytes held) 16
-        ∙ rest (p ++ (x ∷ [])) (kept_line bytes held x) (kept_count bytes held) 16 (hold_more x h)
-        (keep_length bytes held x ∙ size)
-        ∙ ap (cut_read k) (prefix_more p x (hex_from 16 (suc offset) s))
-    go rest true false blank = from bytes held (hex_value c) ∙ rest p bytes held (hex_value c) h size
-    go rest false true blank = ap ended (stray_stays s bytes (amid_with held high offset))
-    go rest false false true = from bytes held 16 ∙ rest p bytes held 16 h size
-    go rest false false false = ap ended (stray_stays s bytes (amid_with held high offset))
+    -- What the line is read as from what is kept behind the character.
+    ended_behind : Taken → HexRead
+    ended_behind t = ended (hex_take s t.bytes t.amid)
+
+    -- A byte begins with the character: a digit, a blank in front of it, or neither.
+    first : Rest → (digit blank : Bool) → ltb v 16 ≡ digit
+        → ended_behind
+        (cond digit (taken bytes (amid_with held (Some v) (next_offset offset)))
+        (cond blank (taken bytes (amid_with held None (next_offset offset)))
+        (taken bytes (strayed (amid_with held None offset)))))
+        ≡ cut_read k (prefixed p
+        (cond digit (hex_from v (suc offset) s) (cond blank (hex_from 16 (suc offset) s) (stray_at offset))))
+    first rest true blank d = from bytes held (Some v) ∙ rest p bytes held (Some v) (ltb-true v 16 d) h size
+    first rest false true d = from bytes held None ∙ rest p bytes held None tt h size
+    first rest false false d = ap ended (stray_stays s bytes (amid_with held None offset))
+
+    -- It follows the digit u: the second digit of the byte, or none.
+    second : (u : ℕ) → u < 16 → Rest → (digit : Bool)
+        → ended_behind
+        (cond digit
+        (taken (kept_line bytes held (16 * (u % 16) + v)) (amid_with (kept_count bytes held) None (next_offset offset)))
+        (taken bytes (strayed (amid_with held (Some u) offset))))
+        ≡ cut_read k (prefixed p (cond digit (byte_then (16 * u + v) (hex_from 16 (suc offset) s)) (stray_at offset)))
+    second u w rest true =
+        let y : ℕ = 16 * (u % 16) + v in
+        let same : y ≡ 16 * u + v = omega arith in
+        from (kept_line bytes held y) (kept_count bytes held) None
+        ∙ rest (p ++ (y ∷ [])) (kept_line bytes held y) (kept_count bytes held) None tt (hold_more y h)
+        (keep_length bytes held y ∙ size)
+        ∙ ap (cut_read k) (prefix_more p y (hex_from 16 (suc offset) s))
+        ∙ ap (λ (x : ℕ). cut_read k (prefixed p (byte_then x (hex_from 16 (suc offset) s)))) same
+    second u w rest false = ap ended (stray_stays s bytes (amid_with held (Some u) offset))
+
+    -- By what waits.
+    cases : (high' : Option ℕ) → Digit high' → Rest
+        → ended (hex_take (c ∷ s) bytes (amid_with held high' offset))
+        ≡ cut_read k (prefixed p (hex_from (high_of high') offset (c ∷ s)))
+    cases (Some u) w rest = simp (lt-ltb u 16 w) (second u w rest (ltb v 16))
+    cases None w rest = first rest (ltb v 16) (is_blank_value c) refl
 
 -- A line is read as its characters say, its bytes cut to the size of the buffer.
 pub hex_whole : (line bytes : List ℕ) → length line < 2 ^ 64
     → ended_as (hex_take line bytes begun).bytes (hex_take line bytes begun).amid ≡ cut_read (length bytes) (hex_read line)
 hex_whole line bytes small =
-    ended_from line [] bytes 0 16 0 (length bytes) (hold_none bytes) refl (omega arith)
+    ended_from line [] bytes 0 None 0 (length bytes) tt (hold_none bytes) refl (omega arith)
     ∙ ap (cut_read (length bytes)) (prefix_none (hex_read line))
 
 -- However the line is parted.

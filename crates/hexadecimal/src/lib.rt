@@ -4,20 +4,15 @@
 
 ghost use Rattle.std.specs.Prelude.{◌≡◌, ◌<◌};
 ghost use Rattle.lines.specs.Feeding.{kept_line, kept_count};
-ghost use Rattle.hexadecimal.specs.Hexadecimal.{hex_value, is_blank_value};
-ghost use Rattle.hexadecimal.specs.Taking.{taken, with_digit, strayed, hex_step, hex_take};
-
-use std::num::wrapping_add_u64;
-
-// One above the highest value of a digit: no digit waits for its second.
-pub const NONE: u8 = 16;
+ghost use Rattle.hexadecimal.specs.Hexadecimal.{is_blank_value};
+ghost use Rattle.hexadecimal.specs.Taking.{taken, digit_value, with_digit, hex_step, hex_take};
 
 // Amid a line: how many bytes are held, the digit that waits for its second, the characters so far, and whether the
-// next of them is out of place.
+// next of them is out of place. Kept a flag: the offset counts whether or not its character is out of place.
 #[derive(Clone, Copy)]
 pub struct Amid {
     pub held: usize,
-    pub high: u8,
+    pub high: Option<u8>,
     pub offset: u64,
     pub stray: bool,
 }
@@ -26,45 +21,29 @@ pub struct Amid {
 pub fn begin() -> Amid {
     Amid {
         held: 0,
-        high: NONE,
+        high: None,
         offset: 0,
         stray: false,
     }
 }
 
-// The value of a digit; NONE for any other character.
-fn value(c: u8) -> u8
-    ensures { result ≡ hex_value c }
+// The value of a digit; none for any other character.
+fn value(c: u8) -> Option<u8>
+    ensures { result ≡ digit_value c }
 {
-    if c < 48 {
-        return NONE;
+    match c {
+        b'0'..=b'9' => Some(c - b'0'),
+        b'A'..=b'F' => Some(c - b'A' + 10),
+        b'a'..=b'f' => Some(c - b'a' + 10),
+        _ => None,
     }
-    if c < 58 {
-        return c - 48;
-    }
-    if c < 65 {
-        return NONE;
-    }
-    if c < 71 {
-        return c - 55;
-    }
-    if c < 97 {
-        return NONE;
-    }
-    if c < 103 {
-        return c - 87;
-    }
-    NONE
 }
 
 // A blank: a space or a tab.
 fn is_blank(c: u8) -> bool
     ensures { result ≡ is_blank_value c }
 {
-    if c == b' ' {
-        return true;
-    }
-    c == b'\t'
+    c == b' ' || c == b'\t'
 }
 
 // One byte more, where there is room.
@@ -84,33 +63,20 @@ fn take_digit(v: u8, bytes: &mut [u8], m: Amid) -> Amid
     requires { v < 16 }
     ensures { taken bytes.new result ≡ with_digit bytes.old m v }
 {
-    let offset = wrapping_add_u64(m.offset, 1);
-    let high = m.high;
-    if high < NONE {
-        return Amid {
-            held: keep(bytes, m.held, 16 * high + v),
-            high: NONE,
+    let offset = m.offset.wrapping_add(1);
+    match m.high {
+        Some(high) => Amid {
+            held: keep(bytes, m.held, 16 * (high % 16) + v),
+            high: None,
             offset,
             stray: false,
-        };
-    }
-    Amid {
-        held: m.held,
-        high: v,
-        offset,
-        stray: false,
-    }
-}
-
-// A character that is out of place.
-fn stray(m: Amid) -> Amid
-    ensures { result ≡ strayed m }
-{
-    Amid {
-        held: m.held,
-        high: m.high,
-        offset: m.offset,
-        stray: true,
+        },
+        None => Amid {
+            held: m.held,
+            high: Some(v),
+            offset,
+            stray: false,
+        },
     }
 }
 
@@ -121,22 +87,14 @@ fn step(c: u8, bytes: &mut [u8], m: Amid) -> Amid
     if m.stray {
         return m;
     }
-    let v = value(c);
-    if v < NONE {
-        return take_digit(v, bytes, m);
+    match value(c) {
+        Some(v) => take_digit(v, bytes, m),
+        None if m.high.is_none() && is_blank(c) => Amid {
+            offset: m.offset.wrapping_add(1),
+            ..m
+        },
+        None => Amid { stray: true, ..m },
     }
-    if m.high < NONE {
-        return stray(m);
-    }
-    if is_blank(c) {
-        return Amid {
-            held: m.held,
-            high: NONE,
-            offset: wrapping_add_u64(m.offset, 1),
-            stray: false,
-        };
-    }
-    stray(m)
 }
 
 // The characters of a part of a line.
@@ -144,10 +102,8 @@ pub fn read(chars: &[u8], bytes: &mut [u8], amid: Amid) -> Amid
     ensures { taken bytes.new result ≡ hex_take chars.now bytes.old amid }
 {
     let mut m = amid;
-    let mut i = 0;
-    while i < chars.len() {
-        m = step(chars[i], bytes, m);
-        i += 1;
+    for &c in chars {
+        m = step(c, bytes, m);
     }
     m
 }

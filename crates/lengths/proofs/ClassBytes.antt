@@ -1,6 +1,5 @@
 -- The bytes of classes, as a table keeps them: what the tests of the code say of them. Assumes nothing.
 use mathlib.Core.Path.{◌≡◌, refl, ap, ap₂}
-use mathlib.Core.Bool.{Bool}
 use mathlib.Core.List.{List, [], ◌∷◌}
 use Prim.Native.Nat.{ℕ, zero, suc}
 use native.Mathlib.Omega.{arith}
@@ -8,7 +7,7 @@ use lib.Dec.{leb}
 use lib.ListN.{length}
 use borrow.Author.Tests.{le-leb}
 use Rattle.lengths.specs.Classes.{Class, on_left, on_right, inside_leaf, inside_caret}
-use Rattle.lengths.specs.Kinds.{IR, inside, kind_of}
+use Rattle.lengths.specs.Kinds.{inside}
 use Rattle.lengths.specs.inside.Steps.{class_byte, class_of, class_bytes, classes_of}
 
 -- The bytes from 2 on are those of interior carets.
@@ -17,14 +16,6 @@ inside_test zero = refl
 inside_test (suc zero) = refl
 inside_test (suc (suc zero)) = refl
 inside_test (suc (suc (suc b))) = le-leb 2 (suc (suc (suc b))) (omega arith)
-
--- Every byte but 0, 1 and 2 is that of an interior caret with a caret as right child.
-pub other_kind : (b : ℕ) (next later : Bool) → (b ≡ 0 → ⊥) → (b ≡ 2 → ⊥) → (b ≡ 1 → ⊥)
-    → IR ≡ kind_of (class_of b) next later
-other_kind zero next later h0 h2 h1 = absurd (h0 refl)
-other_kind (suc zero) next later h0 h2 h1 = absurd (h1 refl)
-other_kind (suc (suc zero)) next later h0 h2 h1 = absurd (h2 refl)
-other_kind (suc (suc (suc b))) next later h0 h2 h1 = refl
 
 -- Reading the bytes of classes gives the classes.
 pub class_read : (c : Class) → class_of (class_byte c) ≡ c

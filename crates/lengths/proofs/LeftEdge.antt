@@ -3,45 +3,25 @@ use mathlib.Core.Path.{◌≡◌, refl, sym, ap, ◌∙◌, subst}
 use mathlib.Core.List.{List, [], ◌∷◌}
 use Prim.Native.Nat.{ℕ, zero, suc, ◌+◌, ◌-◌, ◌<◌, ◌≤◌}
 use native.Mathlib.Omega.{arith}
-use lib.ListN.{length, drop, get_or, set}
+use lib.Dec.{eqb}
+use lib.ListN.{length, drop, set}
+use Rattle.std.specs.List.{prefix_len}
 use lib.Seq.{sets, drop-set-lt}
 use Rattle.trees.specs.inside.ShapeReading.{Exact}
 use Rattle.lengths.specs.Classes.{Class, on_left}
 use Rattle.lengths.specs.inside.Reading.{side_classes, left_edge_classes, shape_classes}
-use Rattle.lengths.specs.inside.Steps.{class_bytes, leaves_in, left_carets, Readable, Shaped}
-use Rattle.lengths.proofs.ReadSteps.{exact_node, drop_node, exact_zero, exact_caret, over_read}
+use Rattle.lengths.specs.inside.Steps.{class_bytes, leaves_in, left_carets, Readable}
+use Rattle.lengths.proofs.ReadSteps.{over_read}
 
--- Amid the carets in front of the first leaf: k of them are counted.
-pub record Edge (shape : List ℕ) (k : ℕ) : Type 0 where
-  pub exact : Exact (drop k shape) (suc k)
-  pub count : k + left_carets (drop k shape) ≡ left_carets shape
-
-module _ {shape : List ℕ} {k : ℕ} (e : Edge shape k) where
-  pub edge_there : k < length shape
-  edge_there = exact_node shape k (suc k) (omega arith) e.exact
-
-  edge_is : (b : ℕ) → get_or shape k 0 ≡ b → drop k shape ≡ b ∷ drop (k + 1) shape
-  edge_is b h = drop_node shape k edge_there ∙ ap (λ (x : ℕ). x ∷ drop (k + 1) shape) h
-
-  -- One caret more.
-  pub edge_more : get_or shape k 0 ≡ 1 → Edge shape (k + 1)
-  edge_more h = record {
-    exact =
-        exact_caret (drop (k + 1) shape) (suc k) (suc (k + 1)) (omega arith)
-        (subst (λ (s : List ℕ). Exact s (suc k)) (edge_is 1 h) e.exact);
-    count = omega (arith, ap left_carets (edge_is 1 h), e.count);
-  }
-
-  -- The first leaf.
-  pub edge_done : (get_or shape k 0 ≡ 1 → ⊥) → k ≡ left_carets shape
-  edge_done h =
-      let z : get_or shape k 0 ≡ 0 =
-      exact_zero (get_or shape k 0) (suc k) (drop (k + 1) shape)
-      (subst (λ (s : List ℕ). Exact s (suc k)) (drop_node shape k edge_there) e.exact) h in
-      omega (arith, ap left_carets (edge_is 0 z), e.count)
-
-pub edge_start : (shape : List ℕ) → Shaped shape → Edge shape 0
-edge_start shape s = record { exact = s.exact; count = omega arith }
+-- They are the front of 1s, in a shape of a tree or more, and a leaf is behind them.
+pub edge_count : (s : List ℕ) (n : ℕ) → Exact s (suc n)
+    → (prefix_len (λ x. eqb x 1) s ≡ left_carets s) × (left_carets s < length s)
+edge_count [] n x = absurd x
+edge_count (zero ∷ s) n x = (refl, omega arith)
+edge_count (suc zero ∷ s) n x =
+    let r = edge_count s (suc n) x in
+    (omega (arith, r.0), omega (arith, r.1))
+edge_count (suc (suc b) ∷ s) n x = absurd x
 
 -- Behind the first leaf, in a shape of n trees that has k carets in front of it.
 edge_exact : (s : List ℕ) (n k : ℕ) → Exact s n → suc k ≡ left_carets s + n → Exact (drop (suc (left_carets s)) s) k
@@ -108,9 +88,6 @@ module _ {shape : List ℕ} (r : Readable shape 0 1 0) (lefts : ℕ) (is : lefts
           behind = omega arith;
           small = omega (arith, leaves-behind, r.small);
         })
-
-    pub first_room : 0 < length shape
-    first_room = exact_node shape 0 1 (omega arith) r.exact
 
     pub side_written : {exit : List ℕ}
         → exit ≡ sets (set shape 0 0) 1 (class_bytes (side_classes (drop (lefts + 1) (set shape 0 0)) (lefts - 1)))

@@ -1,36 +1,31 @@
 -- The pair that was written into buffers of some size, and its length. Assumes nothing.
 use mathlib.Core.Path.{◌≡◌, refl, sym, ap, ap₂, ◌∙◌, subst}
-use mathlib.Core.List.{List, [], ◌∷◌}
+use mathlib.Core.List.{List}
 use Prim.Native.Nat.{ℕ, ◌<◌, ◌≤◌}
 use native.Mathlib.Decide.{dec_le}
 use native.Mathlib.Omega.{arith}
 use borrow.Author.Tests.{lt-ltb, le-ltb}
 use lib.ListN.{length, take}
 use lib.Seq.{sets, length-sets}
-use types.Run.{OneOf}
-use denote.Enum.Declared.{tag_of}
+use Rattle.std.specs.Prelude.{Some, Result, Ok, Err}
+use Rattle.std.specs.Result.{result_ok}
+use Rattle.refusals.specs.declared.Failure.{Failure}
 use Rattle.lists.proofs.Writes.{sets_front}
 use Rattle.refusals.specs.Outcomes.{accepted, refused}
 use Rattle.refusals.proofs.Outcomes.{accepted_refused}
 use Rattle.trees.specs.Building.{needed, tree_of}
-use Rattle.trees.specs.Pairs.{carets_of_sides, max_carets}
+use Rattle.trees.specs.Pairs.{carets_of_sides}
 use Rattle.trees.specs.Shapes.{shape, shape_size}
 use Rattle.trees.specs.inside.ShapeReading.{Exact}
 use Rattle.trees.specs.inside.Writing.{pairing_of, table_carets, pair_carets, WrotePair}
-use Rattle.trees.specs.declared.Pairing.{Pairing}
-use Rattle.trees.specs.declared.Pairing.TheVariants.{Carets}
-use Rattle.trees.specs.contracts.Pairing as Answer
-use Rattle.trees.proofs.PairAnswers.{Counts, Judged, unfit, fit, tables_judged, not_counted, counted}
+use Rattle.trees.proofs.PairAnswers.{Counts, Judged, unfit, fit, tables_judged, counted}
 use Rattle.trees.proofs.Built.{tree_carets}
 use Rattle.trees.proofs.Shapes.{shape-length, shape_exact}
-use Rattle.lengths.specs.declared.Length.{Length}
-use Rattle.lengths.specs.declared.Length.TheVariants.{Letters, Unfit}
 use Rattle.lengths.specs.Classes.{Class}
 use Rattle.lengths.specs.Kinds.{kinds_of}
 use Rattle.lengths.specs.Weights.{weights}
 use Rattle.lengths.specs.inside.Reading.{shape_classes}
-use Rattle.lengths.specs.inside.Contracts.{length_of, table_length}
-use Rattle.lengths.specs.inside.Steps.{length_within, PairShaped, Found}
+use Rattle.lengths.specs.inside.Steps.{length_within, PairShaped}
 use Rattle.lengths.proofs.ShapeClasses.{shape-classes}
 
 -- Beside buffers of m bytes: no pair is written, or the pair of the tables.
@@ -53,8 +48,13 @@ pair_within b a m = go (tables_judged b a)
     go (unfit e) = none 0 0 (rw e refl) (rw e refl)
     go (fit c) = sized c (dec_le (shape_size (carets_of_sides b a)) m)
 
+-- An answer that is a number.
+pub ok_is : (r : Result ℕ Failure) {n : ℕ} → result_ok r ≡ Some n → r ≡ Ok n
+ok_is (Ok k) e = cc
+ok_is (Err f) e = cc
+
 -- The pair was written into two buffers of one size.
-module _ {b a t_minus t_plus minus plus : List ℕ} {r : Pairing} (same : length t_plus ≡ length t_minus)
+module _ {b a t_minus t_plus minus plus : List ℕ} {r : Result ℕ Failure} (same : length t_plus ≡ length t_minus)
     (w : WrotePair b a t_minus t_plus minus plus r) where
   abbrev m : ℕ
   m = length t_minus
@@ -62,16 +62,8 @@ module _ {b a t_minus t_plus minus plus : List ℕ} {r : Pairing} (same : length
   answers : pairing_of r ≡ pair_carets b a m m
   answers = w.result ∙ ap (pair_carets b a m) same
 
-  -- No number of carets: no pair has room.
-  pub not_written : OneOf (1 ∷ 2 ∷ []) (tag_of Answer.the_type r) → refused 0 0 ≡ length_within (length t_minus) b a
-  not_written h = go (pair_within b a m)
-    where
-      go : Within b a m → refused 0 0 ≡ length_within (length t_minus) b a
-      go (none number place e l) = sym l
-      go (some c le e) = absurd (accepted_refused (sym c.accepts ∙ not_counted b a r (answers ∙ e) h))
-
   -- A number of carets: the shapes stand at the front.
-  module _ {n : ℕ} (is : r ≡ Carets n) where
+  module _ {n : ℕ} (is : r ≡ Ok n) where
     found : Counts b a n × (shape_size n ≤ m)
     found = go (pair_within b a m)
       where
@@ -140,24 +132,3 @@ module _ {b a t_minus t_plus minus plus : List ℕ} {r : Pairing} (same : length
         ∙ ap₂ (λ (x y : List Class). weights (kinds_of x) (kinds_of y)) (shape-classes (tree_of n a))
         (shape-classes (tree_of n b)))
         ∙ rw counts.accepts (simp (le-ltb _ _ within))
-
--- A length within some room is the length.
-pub within_found : (b a : List ℕ) (m : ℕ) {r : Length} → length_of r ≡ length_within m b a → Found b a r
-within_found b a m {r} e = record { fits = λ k is. go k is (pair_within b a m) }
-  where
-    go : (k : ℕ) → r ≡ Letters k → Within b a m → length_of r ≡ table_length b a
-    go k is (none number place x l) = absurd (accepted_refused (sym (ap length_of is) ∙ e ∙ l))
-    go k is (some c le x) = e ∙ rw c.accepts (simp (le-ltb _ _ le))
-
-pub unfit_found : (b a : List ℕ) → Found b a Unfit
-unfit_found b a = record { fits = λ k is. absurd (accepted_refused (sym (ap length_of is))) }
-
--- No pair has more carets than the largest.
-pub within_largest : (b a : List ℕ) → length_within (shape_size max_carets) b a ≡ table_length b a
-within_largest b a = go (tables_judged b a)
-  where
-    go : Judged b a → length_within (shape_size max_carets) b a ≡ table_length b a
-    go (unfit e) = rw e refl
-    go (fit c) =
-        let room : shape_size (carets_of_sides b a) ≤ shape_size max_carets = omega (arith, c.few) in
-        rw c.accepts (simp (le-ltb _ _ room))

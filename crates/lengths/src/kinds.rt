@@ -4,8 +4,8 @@ ghost use Rattle.lengths.specs.Kinds.{kind_of};
 ghost use Rattle.lengths.specs.Labels.{label_of};
 ghost use Rattle.lengths.specs.inside.Steps.{kind_named, label_named, class_of};
 
-// The classes of carets, as they are kept in a table: on the left side, on the right side, interior with a leaf as
-// right child, interior with a caret as right child.
+// The classes of carets: on the left side, on the right side, interior with a leaf as right child, interior with a caret
+// as right child. They stay bytes: they are written over the bytes of the shape that is read (no other memory is there).
 pub const LEFT: u8 = 0;
 
 pub const RIGHT: u8 = 1;
@@ -15,7 +15,7 @@ pub const INSIDE_LEAF: u8 = 2;
 pub const INSIDE_CARET: u8 = 3;
 
 // The kinds of carets behind caret 0, in the order of Fordham's table.
-#[derive(Clone, Copy)]
+#[derive(Clone, Copy, PartialEq, Eq)]
 pub enum CaretKind {
     R0,
     RN,
@@ -26,7 +26,7 @@ pub enum CaretKind {
 }
 
 // The labels of carets behind caret 0, in the order of Table 1.
-#[derive(Drop)]
+#[derive(Clone, Copy, PartialEq, Eq)]
 pub enum CaretLabel {
     I,
     N,
@@ -39,22 +39,14 @@ pub enum CaretLabel {
 pub fn kind(class: u8, next: bool, later: bool) -> CaretKind
     ensures { kind_named result ≡ kind_of (class_of class) next later }
 {
-    if class == LEFT {
-        return CaretKind::LL;
+    match class {
+        LEFT => CaretKind::LL,
+        RIGHT if next => CaretKind::RI,
+        RIGHT if later => CaretKind::RN,
+        RIGHT => CaretKind::R0,
+        INSIDE_LEAF => CaretKind::I0,
+        _ => CaretKind::IR,
     }
-    if class == INSIDE_LEAF {
-        return CaretKind::I0;
-    }
-    if class != RIGHT {
-        return CaretKind::IR;
-    }
-    if next {
-        return CaretKind::RI;
-    }
-    if later {
-        return CaretKind::RN;
-    }
-    CaretKind::R0
 }
 
 // The label of a caret behind caret 0, by its kind.
@@ -62,8 +54,7 @@ pub fn label(kind: CaretKind) -> CaretLabel
     ensures { label_named result ≡ label_of (kind_named kind) }
 {
     match kind {
-        CaretKind::R0 => CaretLabel::R,
-        CaretKind::RN => CaretLabel::R,
+        CaretKind::R0 | CaretKind::RN => CaretLabel::R,
         CaretKind::RI => CaretLabel::X,
         CaretKind::LL => CaretLabel::L,
         CaretKind::I0 => CaretLabel::I,

@@ -17,8 +17,8 @@ pub struct Amid {
     pub pending: usize,
 }
 
-// Behind an interior subtree: the next node, and the next caret in order.
-#[derive(Drop)]
+// How far a shape is read: the next node, and the next caret in order.
+#[derive(Clone, Copy)]
 pub struct Place {
     pub at: usize,
     pub caret: CaretNumber,
@@ -48,52 +48,61 @@ fn read_node(shape: &mut [u8], at: usize, caret: CaretNumber, pending: usize) ->
 }
 
 // The interior subtree that begins at a node.
-fn read_subtree(shape: &mut [u8], at: usize, caret: CaretNumber) -> Place
-    requires { Hanging shape.old at caret.0 }
-    ensures { SubtreeRead shape.old at caret.0 shape.new result }
+fn read_subtree(shape: &mut [u8], from: Place) -> Place
+    requires { Hanging shape.old from.at from.caret.0 }
+    ensures { SubtreeRead shape.old from.at from.caret.0 shape.new result }
 {
-    let mut p = at;
-    let mut k = caret.0;
+    let mut place = from;
     let mut pending = 1;
     while pending > 0 {
-        let inside = read_node(shape, p, CaretNumber(k), pending);
-        k = inside.caret.0;
+        let inside = read_node(shape, place.at, place.caret, pending);
         pending = inside.pending;
-        p += 1;
+        place = Place {
+            at: place.at + 1,
+            caret: inside.caret,
+        };
     }
-    Place {
-        at: p,
-        caret: CaretNumber(k),
-    }
+    place
 }
 
 // The rest of the tree, where a subtree that hangs on a side begins: the right subtree of a caret of the left side, or
 // what is left of the right side.
 #[cycle(read_inner_read_side)]
-fn read_side(shape: &mut [u8], at: usize, caret: CaretNumber, lefts: usize)
-    requires { Readable shape.old at (suc lefts) caret.0 }
+fn read_side(shape: &mut [u8], from: Place, lefts: usize)
+    requires { Readable shape.old from.at (suc lefts) from.caret.0 }
     ensures { shape.new
-        ≡ sets shape.old caret.0 (class_bytes (side_classes (drop at shape.old) lefts)) }
+        ≡ sets shape.old from.caret.0 (class_bytes (side_classes (drop from.at shape.old) lefts)) }
 {
     if lefts > 0 {
-        return read_inner(shape, at, caret, LEFT, lefts - 1);
+        return read_inner(shape, from, LEFT, lefts - 1);
     }
-    if shape[at] == 1 {
-        read_inner(shape, at + 1, caret, RIGHT, 0);
+    if shape[from.at] == 1 {
+        read_inner(
+            shape,
+            Place {
+                at: from.at + 1,
+                ..from
+            },
+            RIGHT,
+            0,
+        );
     }
 }
 
 // The rest of the tree, where an interior subtree begins: behind it the next caret of a side, which is of the class,
 // and so many carets of the left side.
 #[cycle(read_inner_read_side)]
-fn read_inner(shape: &mut [u8], at: usize, caret: CaretNumber, class: u8, lefts: usize)
-    requires { Readable shape.old at (suc (suc lefts)) caret.0 }
-    ensures { InnerRead shape.old at caret.0 class lefts shape.new }
+fn read_inner(shape: &mut [u8], from: Place, class: u8, lefts: usize)
+    requires { Readable shape.old from.at (suc (suc lefts)) from.caret.0 }
+    ensures { InnerRead shape.old from.at from.caret.0 class lefts shape.new }
 {
-    let p = read_subtree(shape, at, caret);
-    let k = p.caret.0 as usize;
-    shape[k] = class;
-    read_side(shape, p.at, CaretNumber(p.caret.0 + 1), lefts)
+    let behind = read_subtree(shape, from);
+    shape[behind.caret.0 as usize] = class;
+    let next = Place {
+        caret: CaretNumber(behind.caret.0 + 1),
+        ..behind
+    };
+    read_side(shape, next, lefts)
 }
 
 // The carets in front of the first leaf.
@@ -102,11 +111,7 @@ fn left_edge(shape: &[u8]) -> usize
     ensures value { result ≡ left_carets shape.now }
     ensures upper_bound { result < length shape.now }
 {
-    let mut k = 0;
-    while shape[k] == 1 {
-        k += 1;
-    }
-    k
+    shape.iter().take_while(|x| **x == 1).count()
 }
 
 // The classes of the carets of the tree with the shape, written over its front.
@@ -118,6 +123,10 @@ pub fn read_classes(shape: &mut [u8])
     let lefts = left_edge(shape);
     if lefts > 0 {
         shape[0] = LEFT;
-        read_side(shape, lefts + 1, CaretNumber(1), lefts - 1);
+        let from = Place {
+            at: lefts + 1,
+            caret: CaretNumber(1),
+        };
+        read_side(shape, from, lefts - 1);
     }
 }

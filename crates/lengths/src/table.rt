@@ -1,7 +1,7 @@
-// Fordham's table of weights.
+// Fordham's table of weights, in the order of the kinds.
 ghost use Rattle.std.specs.Prelude.{◌≡◌};
 ghost use Rattle.lengths.specs.Weights.{weight as weightOf};
-ghost use Rattle.lengths.specs.inside.Steps.{kind_named, index_of};
+ghost use Rattle.lengths.specs.inside.Steps.{kind_named};
 
 use crate::kinds::CaretKind;
 
@@ -14,23 +14,9 @@ const WEIGHTS: [[u8; 6]; 6] = [
     [3, 3, 3, 2, 4, 4],
 ];
 
-// The row and the column of a kind.
-fn index(kind: CaretKind) -> usize
-    ensures { result ≡ index_of kind }
-{
-    match kind {
-        CaretKind::R0 => 0,
-        CaretKind::RN => 1,
-        CaretKind::RI => 2,
-        CaretKind::LL => 3,
-        CaretKind::I0 => 4,
-        CaretKind::IR => 5,
-    }
-}
-
 // The weight of a caret of T− with a caret of T+.
 pub fn weight(minus: CaretKind, plus: CaretKind) -> u8
     ensures { result ≡ weightOf (kind_named minus) (kind_named plus) }
 {
-    WEIGHTS[index(minus)][index(plus)]
+    WEIGHTS[minus as usize][plus as usize]
 }

@@ -1,108 +1,69 @@
--- The letters in front of the first byte that is none, one byte at a time; and what their number says of the bytes.
--- Assumes nothing.
+-- The first byte that is no letter, by the reading of the bytes and by the scan. Assumes nothing.
 use mathlib.Core.Path.{◌≡◌, refl, sym, ◌∙◌, ap}
-use mathlib.Core.Bool.{Bool, true, false, cond}
-use mathlib.Core.List.{List, [], ◌∷◌}
-use mathlib.Core.Option.{Option, none, some}
-use Prim.Native.Nat.{ℕ, suc, ◌+◌, ◌<◌, ◌≤◌}
-use native.Mathlib.Numerals.{add-one}
 use native.Mathlib.Omega.{arith}
-use lib.Dec.{eqb}
-use lib.ListN.{length, drop, get_or}
-use lib.Seq.{drop-cons, drop-length}
-use borrow.Author.Tests.{ne_eqb}
-use Rattle.group.specs.Letters.{Letter, 'B, Word}
+use Rattle.std.specs.Prelude.{Bool, true, false, not, cond, ◌&&◌, List, [], ◌∷◌, ℕ, ◌+◌, fold, position}
+use Rattle.std.specs.Prelude.{Option, None, Some}
+use Rattle.std.specs.List.{position_from}
+use Rattle.std.proofs.Math.Option.{Option as Maybe, none, some}
+use Rattle.std.proofs.lemmas.Iterator.Adapters.{position_from-zero}
+use Rattle.std.proofs.lemmas.List.Folds.{fold_stays}
+use Rattle.group.specs.Letters.{Letter}
 use Rattle.group.specs.Texts.{letter_of}
 use Rattle.group.specs.Bytes.{Reading, is_word, not_letter_is, read_letter, read_word}
-use Rattle.group.proofs.Bytes.{not_letter}
-use Rattle.letters.specs.inside.Scanning.{is_letter_value, all_letters_value, reading_end, letters_in_front_value}
+use Rattle.letters.specs.inside.Scanning.{is_letter_value, is_letter_at, not_letter_in}
 
--- The last of the four tests of a byte.
-pub letter_last : (c : ℕ) → (c ≡ 97 → ⊥) → (c ≡ 65 → ⊥) → (c ≡ 98 → ⊥) → eqb c 66 ≡ is_letter_value (letter_of c)
-letter_last c f g h = simp (ne_eqb c 97 f, ne_eqb c 65 g, ne_eqb c 98 h) (last (eqb c 66))
-  where
-    last : (t : Bool) → t ≡ is_letter_value (cond t (some 'B) none)
-    last true = refl
-    last false = refl
+-- Whether a byte is no letter.
+abbrev is_bad : ℕ → Bool
+is_bad byte = not (is_letter_at byte)
 
--- The reading ends at a byte that is no letter, and goes on behind a letter.
-end_here : (o : Option Letter) (r : Reading) (n : ℕ) → is_letter_value o ≡ false → reading_end (read_letter o r) n ≡ 0
-end_here none r n e = refl
-end_here (some x) r n e = let z : ◌≡◌ {A = ℕ} 0 1 = cc in absurd (omega arith)
+-- An offset behind i bytes more.
+abbrev behind : ℕ → Option ℕ → Option ℕ
+behind i None = None
+behind i (Some k) = Some (i + k)
 
-end_later : (o : Option Letter) (r : Reading) (n : ℕ) → is_letter_value o ≡ true
-    → reading_end (read_letter o r) (suc n) ≡ suc (reading_end r n)
-end_later none r n e = let z : ◌≡◌ {A = ℕ} 0 1 = cc in absurd (omega arith)
-end_later (some x) (is_word w) n e = refl
-end_later (some x) (not_letter_is k) n e = refl
+behind_none : (o : Option ℕ) → o ≡ behind 0 o
+behind_none None = refl
+behind_none (Some k) = ap Some (omega arith)
 
-module _ (s : List ℕ) (i : ℕ) (lt : i < length s) where
-  next : drop i s ≡ get_or s i 0 ∷ drop (i + 1) s
-  next = rw add-one (drop-cons s i 0 lt)
+behind_letter : (i : ℕ) (x : Letter) (r : Reading)
+    → behind i (not_letter_in (read_letter (some x) r)) ≡ behind (i + 1) (not_letter_in r)
+behind_letter i x (is_word w) = refl
+behind_letter i x (not_letter_is k) = ap Some (omega arith)
 
-  pub bad_here : is_letter_value (letter_of (get_or s i 0)) ≡ false → letters_in_front_value (drop i s) ≡ 0
-  unfolding read_word
-  bad_here e =
-      ap letters_in_front_value next
-      ∙ end_here (letter_of (get_or s i 0)) (read_word (drop (i + 1) s)) (suc (length (drop (i + 1) s))) e
-
-  pub bad_later : is_letter_value (letter_of (get_or s i 0)) ≡ true
-      → letters_in_front_value (drop i s) ≡ suc (letters_in_front_value (drop (i + 1) s))
-  unfolding read_word
-  bad_later e =
-      ap letters_in_front_value next
-      ∙ end_later (letter_of (get_or s i 0)) (read_word (drop (i + 1) s)) (length (drop (i + 1) s)) e
-
-pub bad_none : (s : List ℕ) (i : ℕ) → i ≡ length s → letters_in_front_value (drop i s) ≡ 0
+scan_from : (i : ℕ) (s : List ℕ) → behind i (not_letter_in (read_word s)) ≡ position_from is_bad i s
 unfolding read_word
-bad_none s i e = ap (λ (k : ℕ). letters_in_front_value (drop k s)) e ∙ ap letters_in_front_value (drop-length s)
+scan_from i [] = refl
+scan_from i (c ∷ s) = go (letter_of c) (scan_from (i + 1) s)
+  where
+    go : (o : Maybe Letter) → behind (i + 1) (not_letter_in (read_word s)) ≡ position_from is_bad (i + 1) s
+        → behind i (not_letter_in (read_letter o (read_word s)))
+        ≡ cond (not (is_letter_value o)) (Some i) (position_from is_bad (i + 1) s)
+    go none later = ap Some (omega arith)
+    go (some x) later = behind_letter i x (read_word s) ∙ later
 
--- Whether all bytes are letters: those before i, the one at i, and those behind it.
-and_moved : (t good rest : Bool) → cond (cond t good false) rest false ≡ cond good (cond t rest false) false
-and_moved true true rest = refl
-and_moved true false rest = refl
-and_moved false true rest = refl
-and_moved false false rest = refl
+-- The scan finds what the reading says.
+pub scan_reads : (s : List ℕ) → position is_bad s ≡ not_letter_in (read_word s)
+scan_reads s = position_from-zero is_bad s ∙ sym (behind_none (not_letter_in (read_word s)) ∙ scan_from 0 s)
 
-pub good_more : (s : List ℕ) (i : ℕ) (good more : Bool) → i < length s
-    → more ≡ cond (is_letter_value (letter_of (get_or s i 0))) good false
-    → cond more (all_letters_value (drop (i + 1) s)) false ≡ cond good (all_letters_value (drop i s)) false
-good_more s i good more lt e =
-    ap (λ (t : Bool). cond t (all_letters_value (drop (i + 1) s)) false) e
-    ∙ and_moved (is_letter_value (letter_of (get_or s i 0))) good (all_letters_value (drop (i + 1) s))
-    ∙ ap (λ (l : List ℕ). cond good (all_letters_value l) false) (sym (next s i lt))
+-- Whether all bytes are letters, one byte more in a turn.
+abbrev and_letter : Bool → ℕ → Bool
+and_letter good byte = good && is_letter_at byte
 
-pub good_none : (s : List ℕ) (i : ℕ) (good : Bool) → i ≡ length s
-    → good ≡ cond good (all_letters_value (drop i s)) false
-good_none s i true e = sym (ap (λ (k : ℕ). all_letters_value (drop k s)) e ∙ ap all_letters_value (drop-length s))
-good_none s i false e = refl
-
--- Where all are letters, the reading ends behind them all.
-pub good_end : (s : List ℕ) → all_letters_value s ≡ true → length s ≡ letters_in_front_value s
+-- Where all are letters, the reading finds none that is not.
+pub all_read : (s : List ℕ) → fold and_letter true s ≡ true → not_letter_in (read_word s) ≡ None
 unfolding read_word
-good_end [] e = refl
-good_end (c ∷ s) e = go (is_letter_value (letter_of c)) refl e (good_end s)
+all_read [] e = refl
+all_read (c ∷ s) e = go (letter_of c) e (all_read s)
   where
-    go : (t : Bool) → is_letter_value (letter_of c) ≡ t → cond t (all_letters_value s) false ≡ true
-        → (all_letters_value s ≡ true → length s ≡ letters_in_front_value s)
-        → suc (length s) ≡ letters_in_front_value (c ∷ s)
-    go true f h later = ap suc (later h) ∙ sym (end_later (letter_of c) (read_word s) (length s) f)
-    go false f h later = let z : ◌≡◌ {A = ℕ} 0 1 = cc in absurd (omega arith)
+    later : (x : Letter) (r : Reading) → not_letter_in r ≡ None → not_letter_in (read_letter (some x) r) ≡ None
+    later x (is_word w) k = refl
+    later x (not_letter_is n) k = cc
 
--- As many letters as bytes: the bytes are a word.
-pub all_letters_lem : (s : List ℕ) → length s ≤ letters_in_front_value s → (w : Word) × (read_word s ≡ is_word w)
-all_letters_lem s h = go (read_word s) refl
-  where
-    go : (r : Reading) → read_word s ≡ r → (w : Word) × (read_word s ≡ is_word w)
-    go (is_word w) e = (w, e)
-    go (not_letter_is k) e =
-        absurd (omega (arith, ((not_letter s k).0 e).within, ap (λ (r : Reading). reading_end r (length s)) e))
-
--- Fewer: the number is the offset of the first that is none.
-pub some_bad : (s : List ℕ) → letters_in_front_value s < length s
-    → read_word s ≡ not_letter_is (letters_in_front_value s)
-some_bad s h = go (read_word s) refl
-  where
-    go : (r : Reading) → read_word s ≡ r → read_word s ≡ not_letter_is (letters_in_front_value s)
-    go (is_word w) e = absurd (omega (arith, ap (λ (r : Reading). reading_end r (length s)) e))
-    go (not_letter_is k) e = e ∙ ap not_letter_is (sym (ap (λ (r : Reading). reading_end r (length s)) e))
+    go : (o : Maybe Letter) → fold and_letter (is_letter_value o) s ≡ true
+        → (fold and_letter true s ≡ true → not_letter_in (read_word s) ≡ None)
+        → not_letter_in (read_letter o (read_word s)) ≡ None
+    go none h all =
+        let z : false ≡ true = sym (fold_stays and_letter false (λ x. refl) s) ∙ h in
+        let one : ◌≡◌ {A = ℕ} 0 1 = cc in
+        absurd (omega arith)
+    go (some x) h all = later x (read_word s) (all h)

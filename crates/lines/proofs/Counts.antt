@@ -9,6 +9,7 @@ use native.Mathlib.Omega.{arith}
 use borrow.Author.Tests.{eq-eqb, ne_eqb}
 use lib.ListN.{length, drop, get_or, length-append, drop_of_length-le}
 use lib.Seq.{drop-cons}
+use Rattle.std.proofs.lemmas.List.{get_or_read}
 use Rattle.lines.specs.Lines.{line_feed, last_line, lines_from, lines_of, line_bytes}
 use Rattle.lines.specs.inside.Counting.{count_feeds_value, last_of, unended_at, count_unended_value}
 use Rattle.lines.proofs.Lines.{lines_end, lines_more}
@@ -59,10 +60,19 @@ last_byte (x ∷ s) some =
     let place : length (x ∷ s) - 1 ≡ length s = omega arith in
     ap (λ (k : ℕ). unended_at (get_or (x ∷ s) k 0)) place ∙ ap unended_at (sym (last_read x s))
 
--- No byte.
-pub last_none : (s : List ℕ) → length s ≡ 0 → 0 ≡ count_unended_value s
-last_none [] none = refl
-last_none (x ∷ s) none = absurd (omega arith)
+-- It is no line feed.
+pub last_other : (s : List ℕ) (x : ℕ) → 0 < length s → x ≡ get_or s (length s - 1) x → (x ≡ line_feed → ⊥)
+    → 1 ≡ count_unended_value s
+last_other s x some e other =
+    sym (simp (ne_eqb x line_feed other)) ∙ ap unended_at (get_or_read s (length s - 1) x (omega arith) e 0)
+    ∙ last_byte s some
+
+-- It is one.
+pub last_feed : (s : List ℕ) (x : ℕ) → 0 < length s → x ≡ get_or s (length s - 1) x → x ≡ line_feed
+    → 0 ≡ count_unended_value s
+last_feed s x some e f =
+    sym (simp (eq-eqb x line_feed f)) ∙ ap unended_at (get_or_read s (length s - 1) x (omega arith) e 0)
+    ∙ last_byte s some
 
 -- The line l has begun behind the byte d: it is empty where that is a line feed, and only there.
 abbrev Begun : (d : ℕ) (l : List ℕ) → Type 0

@@ -1,14 +1,14 @@
 -- The bytes of a line kept all at once (01, 'The receipt program'): they are kept one after another, and those for
 -- which there is no room are left out. Assumes nothing.
 use mathlib.Core.Path.{◌≡◌, refl, sym, ap, ◌∙◌}
-use mathlib.Core.List.{List, [], ◌∷◌, ◌++◌}
+use mathlib.Core.List.{List, [], ◌∷◌, ◌++◌, append_assoc, append-nil}
 use Prim.Native.Nat.{ℕ, zero, suc, ◌+◌, ◌-◌, ◌<◌, ◌≤◌, min}
 use native.Mathlib.Decide.{dec_lt}
 use native.Mathlib.Numerals.{add-one}
 use native.Mathlib.Omega.{arith}
-use lib.ListN.{length, take, drop, get_or, set, length-take, length-drop, length-set}
-use lib.Seq.{sets, set_out, take-nil, take-suc, get_or-drop}
-use Rattle.lists.proofs.Writes.{sets-append}
+use borrow.Rule.Slice.PartMut.{put_mid}
+use lib.ListN.{length, take, drop, set, length-take, length-drop, length-set, drop_of_length-le}
+use lib.Seq.{sets, sets-eq, set_out, take_all, take-nil, drop-drop}
 use Rattle.lines.specs.Feeding.{kept_line, kept_count}
 use Rattle.lines.specs.inside.Keeping.{Kept}
 use Rattle.lines.proofs.Feeding.{keep_inside, keep_outside}
@@ -25,37 +25,37 @@ sets_room [] l i n h = ap (sets l i) (take-nil {A = ℕ} n)
 sets_room (x ∷ bytes) l i zero h = sym (sets_out (x ∷ bytes) l i (omega arith))
 sets_room (x ∷ bytes) l i (suc n) h = sets_room bytes (set l i x) (suc i) n (omega (arith, length-set l i x))
 
--- One byte more is copied.
-pub copy_more : (part : List ℕ) (from : ℕ) (l : List ℕ) (held i : ℕ) → from + i < length part
-    → set (sets l held (take i (drop from part))) (held + i) (get_or part (from + i) 0)
-    ≡ sets l held (take (i + 1) (drop from part))
-copy_more part from l held i lt =
-    let t : List ℕ = drop from part in
-    let x : ℕ = get_or part (from + i) 0 in
-    let here : i < length t = omega (arith, length-drop from part) in
-    let count : i ≡ length (take i t) = omega (arith, length-take i t) in
-    let more : take (i + 1) t ≡ take i t ++ (x ∷ []) =
-    ap (λ (k : ℕ). take k t) (add-one i) ∙ take-suc t i 0 here
-    ∙ ap (λ (y : ℕ). take i t ++ (y ∷ [])) (get_or-drop from part i 0) in
-    ap (λ (k : ℕ). set (sets l held (take i t)) (held + k) x) count
-    ∙ sets-append (take i t) l held (x ∷ [])
-    ∙ ap (sets l held) (sym more)
+-- There is no room.
+pub kept_out : {bytes l : List ℕ} {held : ℕ} → length l < held → Kept bytes l held l held
+kept_out {bytes} {l} {held} out = record { count = omega arith; holds = sym (sets_out bytes l held (omega arith)) }
 
 -- As many bytes were copied as there is room for.
-pub copy_kept : (bytes l : List ℕ) (held wanted n : ℕ) (line : List ℕ) → wanted ≤ length bytes
-    → n ≡ min wanted (length l - held) → line ≡ sets l held (take n bytes)
-    → Kept (take wanted bytes) l held line (held + n)
-copy_kept bytes l held wanted n line most e h = record {
-  count = omega (arith, e, length-take wanted bytes);
-  holds = h ∙ whole (dec_lt n wanted);
+pub kept_copy : {bytes l room new : List ℕ} {held n : ℕ} → held ≤ length l → room ≡ take (length l - held) (drop held l)
+    → n ≡ min (length bytes) (length room) → new ≡ take n bytes ++ drop n room
+    → Kept bytes l held (put_mid held (length l - held) l new) (held + n)
+kept_copy {bytes} {l} {room} {new} {held} {n} in_bounds e count copied = record {
+  count = omega (arith, size);
+  holds =
+      simp (copied, none, append-nil, behind, drop-drop, ← append_assoc)
+      (ap (λ (k : ℕ). (take held l ++ take n bytes) ++ drop (held + k) l) (sym front)
+      ∙ sym (sets-eq (take n bytes) l held (omega (arith, front, size))) ∙ whole (dec_lt n (length bytes)));
 }
   where
-    whole : Dec (n < wanted) → sets l held (take n bytes) ≡ sets l held (take wanted bytes)
-    whole (yes lt) =
-        sets_room bytes l held n (omega (arith, e)) ∙ sym (sets_room bytes l held wanted (omega (arith, e)))
-    whole (no all) =
-        let same : n ≡ wanted = omega (arith, e) in
-        ap (λ (k : ℕ). sets l held (take k bytes)) same
+    behind : room ≡ drop held l
+    behind = e ∙ take_all (length l - held) (drop held l) (omega (arith, length-drop held l))
+
+    size : n ≡ min (length bytes) (length l - held)
+    size = omega (arith, ap length behind, length-drop held l)
+
+    front : length (take n bytes) ≡ n
+    front = omega (arith, length-take n bytes, size)
+
+    none : drop (length l - held) (drop held l) ≡ []
+    none = drop_of_length-le (drop held l) (omega (arith, length-drop held l))
+
+    whole : Dec (n < length bytes) → sets l held (take n bytes) ≡ sets l held bytes
+    whole (yes lt) = sets_room bytes l held n (omega (arith, size))
+    whole (no all) = ap (sets l held) (take_all n bytes (omega arith))
 
 -- No byte is kept.
 pub kept_none : {line : List ℕ} {held : ℕ} {exit : List ℕ} {end : ℕ} → Kept [] line held exit end

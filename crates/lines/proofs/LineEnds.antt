@@ -1,7 +1,7 @@
 -- Laws of the ends of lines (01, 'The receipt program'; 02, [4]): where a line ends, by the bytes that are passed; the
 -- line that is begun at a place, and the lines behind it; and that there are no more lines, and no more bytes of lines,
 -- than bytes.
---     line_end_here, line-end-later, line-end-over, line-end-clear   one byte, none, or k bytes without a line feed
+--     line_end_over, line_end_clear     no byte, or k bytes without a line feed
 --     line_end_from, line-end-within    the end is between the place and the end of the bytes
 --     lines_cut, lines_none, lines-over   the lines from a place on
 --     lines_few                         how many lines there are at most
@@ -10,29 +10,15 @@ use mathlib.Core.Path.{◌≡◌, refl, sym, ap, ap₂, ◌∙◌}
 use mathlib.Core.List.{List, [], ◌∷◌, ◌++◌, append_assoc, append-nil}
 use Prim.Native.Nat.{ℕ, suc, ◌+◌, ◌-◌, ◌<◌, ◌≤◌}
 use native.Mathlib.Decide.{ℕ_discrete}
-use native.Mathlib.Numerals.{add-one}
 use native.Mathlib.Omega.{arith}
-use lib.ListN.{length, take, drop, get_or, length-append, length-drop, drop_of_length-le}
-use lib.Seq.{drop-cons, drop-drop}
+use lib.ListN.{length, take, drop, length-append, length-drop, drop_of_length-le}
+use lib.Seq.{drop-drop}
 use Rattle.lines.specs.Lines.{line_feed, last_line, lines_from, lines_of}
 use Rattle.lines.specs.LineEnds.{until_feed, line_end_value}
 use Rattle.lines.proofs.Lines.{lines_end, lines_more}
 use Rattle.lines.proofs.UntilFeed.{until_none, until_end, until_more, until_within, until_clear}
 
 module _ (s : List ℕ) (i : ℕ) where
-  module _ (lt : i < length s) where
-    -- The byte at the place, and those behind it.
-    next : drop i s ≡ get_or s i 0 ∷ drop (i + 1) s
-    next = rw add-one (drop-cons s i 0 lt)
-
-    -- A line feed stands at the place: the line ends there.
-    pub line_end_here : get_or s i 0 ≡ line_feed → i ≡ line_end_value s i
-    line_end_here e = omega (arith, ap until_feed next ∙ until_end (get_or s i 0) (drop (i + 1) s) e)
-
-    -- Another byte: the line ends where the one that is begun behind it does.
-    pub line_end_later : (get_or s i 0 ≡ line_feed → ⊥) → line_end_value s (i + 1) ≡ line_end_value s i
-    line_end_later other = omega (arith, ap until_feed next ∙ until_more (get_or s i 0) (drop (i + 1) s) other)
-
   -- Beyond the end: the place itself.
   pub line_end_over : length s ≤ i → i ≡ line_end_value s i
   line_end_over le = omega (arith, ap until_feed (drop_of_length-le s le) ∙ until_none)

@@ -3,10 +3,16 @@
 use mathlib.Core.Path.{◌≡◌, refl, sym, ap, ◌∙◌, subst}
 use mathlib.Core.Bool.{Bool, true, false}
 use mathlib.Core.List.{List, [], ◌∷◌}
+use mathlib.Core.Logic.{◌⊎◌, inl, inr}
 use Prim.Native.Nat.{ℕ, suc, ◌+◌, ◌-◌, ◌<◌, ◌≤◌}
 use native.Mathlib.Decide.{ℕ_discrete}
 use native.Mathlib.Omega.{arith}
-use lib.ListN.{length, take, drop, length-drop}
+use lib.ListN.{length, take, drop, length-drop, drop_of_length-le}
+use lib.Seq.{take-nil}
+use Rattle.std.specs.Prelude.{Option, Some, None}
+use Rattle.std.specs.Borrow.{Bor}
+use Rattle.std.specs.List.{slice_range}
+use Rattle.std.specs.Option.{MatchOption, unwrap_or}
 use Rattle.lines.specs.Lines.{line_feed}
 use Rattle.lines.specs.LineEnds.{until_feed, line_end_value}
 use Rattle.lines.specs.Feeding.{kept_line, kept_count}
@@ -68,21 +74,30 @@ took_to_lem (x ∷ s) i line held ended end kept count h e k =
         (omega (arith, e, more))
         (kept_next x (subst (λ (n : ℕ). Kept (take n (x ∷ s)) line held kept count) more k))
 
--- The bytes up to the end of the line are bytes of the part.
-pub feed_within : (part : List ℕ) (from end : ℕ) → end ≡ line_end_value part from
-    → (from ≤ end) × (end - from ≤ length part - from)
-feed_within part from end e =
-    (omega (arith, e), omega (arith, e, until_within (drop from part), length-drop from part))
+-- The bytes up to the end of the line, where the place is in the part; none, where it is behind it.
+pub feed_bytes : (part : List ℕ) (from end : ℕ) (got : Option (Bor (List ℕ))) (none : Bor (List ℕ))
+    → end ≡ line_end_value part from → none.now ≡ []
+    → MatchOption got ((end < from) ⊎ (length part < end))
+    (λ x. (from ≤ end) × (end ≤ length part) × (x.now ≡ slice_range part from end) × (length x.now + from ≡ end))
+    → (unwrap_or got none).now ≡ take (end - from) (drop from part)
+feed_bytes part from end None none e n h =
+    n ∙ sym (ap (take (end - from)) (drop_of_length-le part (go h)) ∙ take-nil (end - from))
+  where
+    go : (end < from) ⊎ (length part < end) → length part ≤ from
+    go (inl under) = absurd (omega (arith, e, under))
+    go (inr over) = omega (arith, e, over, until_within (drop from part), length-drop from part)
+feed_bytes part from end (Some x) none e n h = h.2
 
-module _ (part : List ℕ) (from : ℕ) {line : List ℕ} {held end : ℕ} {kept : List ℕ} {count : ℕ}
-    (e : end ≡ line_end_value part from) (k : Kept (take (end - from) (drop from part)) line held kept count) where
+module _ (part : List ℕ) (from : ℕ) {line bytes : List ℕ} {held end : ℕ} {kept : List ℕ} {count : ℕ}
+    (e : end ≡ line_end_value part from) (b : bytes ≡ take (end - from) (drop from part))
+    (k : Kept bytes line held kept count) where
   -- What the call leaves, by the bytes from the place on.
   takes : (ended : Bool) → Ending ended (until_feed (drop from part)) (length (drop from part))
       → take_line (drop from part) from line held ≡ took_to ended end kept count
   takes ended h =
       let size : end - from ≡ until_feed (drop from part) = omega (arith, e) in
       took_to_lem (drop from part) from line held ended end kept count h e
-      (subst (λ (n : ℕ). Kept (take n (drop from part)) line held kept count) size k)
+      (subst (λ (s : List ℕ). Kept s line held kept count) (b ∙ ap (λ (n : ℕ). take n (drop from part)) size) k)
 
   -- The line ends.
   pub feed_end : end < length part

@@ -1,7 +1,6 @@
 // Blocks of bytes without a line feed, passed over. A block is gone through with no exit from the loop, so that the
 // compiler tests many bytes at once.
-ghost use Rattle.std.specs.Prelude.{◌≡◌, true, cond, ◌+◌, ◌≤◌, eqb, ltb, leb, length, drop};
-ghost use Rattle.lines.specs.Lines.{line_feed};
+ghost use Rattle.std.specs.Prelude.{◌≡◌, ltb, leb, length, drop};
 ghost use Rattle.lines.specs.LineEnds.{until_feed, line_end_value};
 
 use crate::LINE_FEED;
@@ -9,44 +8,31 @@ use crate::LINE_FEED;
 // The bytes of a block.
 const BLOCK: usize = 64;
 
-// Whether a line feed was found before a byte, or it is one.
-fn or_feed(found: bool, byte: u8) -> bool
-    ensures { result ≡ cond (eqb byte line_feed) true found }
+// Whether a line feed stands in a block, as a number: where truth values are joined, the compiler tests byte by byte.
+fn has_feed(block: &[u8]) -> bool
+    ensures { result ≡ ltb (until_feed block.now) (length block.now) }
 {
-    if byte == LINE_FEED {
-        return true;
-    }
-    found
-}
-
-// Whether a line feed stands in the block at a place.
-fn has_feed(bytes: &[u8], from: usize) -> bool
-    requires { from + 64 ≤ length bytes.now }
-    ensures { result ≡ ltb (until_feed (drop from bytes.now)) 64 }
-{
-    let mut found = false;
-    let mut i = 0;
-    while i < BLOCK {
-        found = or_feed(found, bytes[from + i]);
-        i += 1;
-    }
-    found
+    let found = block
+        .iter()
+        .fold(0, |found, &x| found | u8::from(x == LINE_FEED));
+    found == 1
 }
 
 // Whether a whole block stands at a place, and no line feed in it.
 fn is_clear(bytes: &[u8], from: usize) -> bool
     ensures { result ≡ leb 64 (until_feed (drop from bytes.now)) }
 {
-    if bytes.len() < from {
+    let Some(rest) = bytes.get(from..) else {
         return false;
-    }
-    if bytes.len() - from < BLOCK {
+    };
+    let Some(block) = rest.get(..BLOCK) else {
         return false;
-    }
-    !has_feed(bytes, from)
+    };
+    !has_feed(block)
 }
 
 // The place behind the blocks without a line feed: the line that is begun at it ends where it did.
+// Kept a `while`: over `chunks_exact` the place would still be counted by hand, a block at a time.
 pub fn pass_blocks(bytes: &[u8], from: usize) -> usize
     ensures { line_end_value bytes.now result ≡ line_end_value bytes.now from }
 {

@@ -10,12 +10,10 @@ pub fn count_feeds(bytes: &[u8]) -> usize
     ensures { result ≡ count_feeds_value bytes.now }
 {
     let mut n = 0;
-    let mut i = 0;
-    while i < bytes.len() {
-        if bytes[i] == LINE_FEED {
+    for &x in bytes {
+        if x == LINE_FEED {
             n += 1;
         }
-        i += 1;
     }
     n
 }
@@ -24,12 +22,8 @@ pub fn count_feeds(bytes: &[u8]) -> usize
 pub fn count_unended(bytes: &[u8]) -> usize
     ensures { result ≡ count_unended_value bytes.now }
 {
-    let n = bytes.len();
-    if n == 0 {
-        return 0;
+    match bytes.last() {
+        Some(&x) if x != LINE_FEED => 1,
+        _ => 0,
     }
-    if bytes[n - 1] == LINE_FEED {
-        return 0;
-    }
-    1
 }

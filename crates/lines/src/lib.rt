@@ -19,7 +19,8 @@ mod keeping;
 const LINE_FEED: u8 = 10;
 
 // The next place in the part, how many bytes of the line are held, and whether the line ended.
-#[derive(Drop)]
+// Kept a flag: the place and the count stand whether or not it did.
+#[derive(Clone, Copy)]
 pub struct Fed {
     pub next: usize,
     pub held: usize,
@@ -27,7 +28,7 @@ pub struct Fed {
 }
 
 // How many lines there are, and the bytes of them all, line ends left out.
-#[derive(Drop)]
+#[derive(Clone, Copy)]
 pub struct Counted {
     pub lines: usize,
     pub bytes: usize,
@@ -37,14 +38,12 @@ pub struct Counted {
 pub fn line_end(bytes: &[u8], from: usize) -> usize
     ensures { result ≡ line_end_value bytes.now from }
 {
-    let mut i = pass_blocks(bytes, from);
-    while i < bytes.len() {
-        if bytes[i] == LINE_FEED {
-            return i;
-        }
-        i += 1;
-    }
-    i
+    let start = pass_blocks(bytes, from);
+    let Some(rest) = bytes.get(start..) else {
+        return start;
+    };
+    let feed = rest.iter().position(|&x| x == LINE_FEED);
+    start + feed.unwrap_or(rest.len())
 }
 
 // The lines of bytes, counted.
@@ -65,17 +64,18 @@ pub fn feed(part: &[u8], from: usize, line: &mut [u8], held: usize) -> Fed
     ensures { TookLine (drop from part.now) from line.old held line.new result }
 {
     let end = line_end(part, from);
-    let kept = keep_all(line, held, part, from, end);
+    let held = keep_all(line, held, part.get(from..end).unwrap_or(&[]));
     if end < part.len() {
-        return Fed {
+        Fed {
             next: end + 1,
-            held: kept,
+            held,
             ended: true,
-        };
-    }
-    Fed {
-        next: end,
-        held: kept,
-        ended: false,
+        }
+    } else {
+        Fed {
+            next: end,
+            held,
+            ended: false,
+        }
     }
 }

@@ -8,14 +8,17 @@ use native.Mathlib.Omega.{arith}
 use lib.Dec.{ltb}
 use lib.ListN.{length, take}
 use lib.Seq.{length-take-le}
-use borrow.Author.Tests.{le-ltb, eq-eqb}
+use borrow.Author.Tests.{le-ltb, eq-eqb, le-leb}
+use Rattle.std.specs.Prelude.{Result, Ok, Err}
+use Rattle.refusals.specs.declared.Failure.{Failure}
+use Rattle.refusals.specs.declared.Refusal.{Refusal}
+use Rattle.refusals.specs.declared.Failure.TheVariants.{Refused, Unfit}
 use Rattle.lists.specs.Entries.{total}
 use Rattle.group.specs.Limits.{limit}
 use Rattle.group.specs.Forms.{b_side, a_side, levels}
 use Rattle.group.specs.Powers.{SignedPower, exponent_sizes}
 use Rattle.group.specs.inside.PowerLists.{powers_in}
 use Rattle.refusals.specs.Outcomes.{Outcome, accepted, refused, drop_value, reply_of}
-use Rattle.refusals.specs.declared.Reply.TheVariants.{Number}
 use Rattle.refusals.proofs.Outcomes.{accepted_refused, refused_number}
 use Rattle.tokens.specs.Tokens.{AllInRange}
 use Rattle.tokens.specs.inside.Arrays.{Holding}
@@ -23,9 +26,24 @@ use Rattle.forest.specs.Filling.{product_form, tables_for, product_table}
 use Rattle.forest.specs.inside.Filling.{cells, filling_of}
 use Rattle.forest.specs.inside.Seeking.{front_room, row_room}
 use Rattle.forest.specs.inside.FillingPowers.{indices_fit_value, powers_fit_value, judged_powers, FilledPowers}
-use Rattle.forest.specs.declared.Filling.{Filling}
-use Rattle.forest.specs.declared.Filling.TheVariants.{Filled, Refused as NotFilled, Unfit}
-use Rattle.notation.specs.inside.Products.{Kept, filling_reply, FilledBy}
+use Rattle.notation.specs.inside.Products.{FilledBy}
+use Rattle.notation.specs.declared.powers.Powers.{Powers}
+
+-- Three slices of one length hold powers that are in range, and their sizes sum to at most the limit.
+pub record Kept (ks es ss : List ℕ) : Type 0 where
+  pub es_length : length es ≡ length ks
+  pub ss_length : length ss ≡ length ks
+  pub in_range : AllInRange (powers_in ks es ss)
+  pub small : exponent_sizes (powers_in ks es ss) ≤ limit
+
+-- What the value of the reader's type says.
+pub kept : (p : Powers) → Kept p.indices.now p.exponents.now p.sides.now
+kept p = record {
+  es_length = p.exponents_length;
+  ss_length = p.sides_length;
+  in_range = p.ranged;
+  small = omega (arith, p.small, p.summed);
+}
 
 -- Lists of one length: their powers, one by one.
 indices_fit_lem : (ks es ss : List ℕ) → length es ≡ length ks → length ss ≡ length ks → AllInRange (powers_in ks es ss)
@@ -34,7 +52,7 @@ indices_fit_lem [] es ss e s h = refl
 indices_fit_lem (k ∷ ks) [] ss e s h = absurd (omega (arith, e))
 indices_fit_lem (k ∷ ks) (x ∷ es) [] e s h = absurd (omega (arith, s))
 indices_fit_lem (k ∷ ks) (x ∷ es) (y ∷ ss) e s h =
-    simp (le-ltb limit k h.0.0) (indices_fit_lem ks es ss (omega (arith, e)) (omega (arith, s)) h.1)
+    simp (le-leb k limit h.0.0) (indices_fit_lem ks es ss (omega (arith, e)) (omega (arith, s)) h.1)
 
 sizes_total : (ks es ss : List ℕ) → length es ≡ length ks → length ss ≡ length ks
     → exponent_sizes (powers_in ks es ss) ≡ total es
@@ -56,23 +74,6 @@ tables_numbered nb na ps e =
     go false true a e = let z : ◌≡◌ {A = ℕ} 0 6 = refused_number e in omega arith
     go false false true e = let z : ◌≡◌ {A = ℕ} 0 6 = refused_number e in omega arith
     go false false false e = accepted_refused (sym e)
-
--- An answer of the engine that is not `Unfit`, as a reply.
-abbrev Fit : Filling → Type 0
-Fit f = f ≡ Unfit → ⊥
-
-reply_dropped : (f : Filling) → Fit f → drop_value (reply_of (filling_reply f)) ≡ filling_of f
-reply_dropped (Filled n) h = refl
-reply_dropped (NotFilled r) h = refl
-reply_dropped Unfit h = absurd (h refl)
-
-reply_number : (f : Filling) (n : ℕ) → Fit f → filling_reply f ≡ Number n → f ≡ Filled n
-reply_number (Filled m) n h e = let same : m ≡ n = cc in ap Filled same
-reply_number (NotFilled r) n h e = let z : ◌≡◌ {A = ℕ} 0 1 = cc in absurd (omega arith)
-reply_number Unfit n h e = absurd (h refl)
-
-fit_outcome : (nb na : ℕ) (ps : List SignedPower) (f : Filling) → filling_of f ≡ drop_value (tables_for nb na ps) → Fit f
-fit_outcome nb na ps f e is = tables_numbered nb na ps (sym (ap filling_of is) ∙ e)
 
 module _ {ks es ss : List ℕ} (h : Kept ks es ss) where
   powers_fit_lem : powers_fit_value ks es ss ≡ true
@@ -99,23 +100,35 @@ module _ {ks es ss : List ℕ} (h : Kept ks es ss) where
           powers_fit_lem,
         )
 
-    -- What it leaves.
-    pub engine_fills : {b' a' : List ℕ} (f : Filling)
-        → FilledPowers ks es ss b a lefts rights before stack b' a' f
-        → FilledBy (powers_in ks es ss) b a b' a' (filling_reply f)
-    engine_fills f t = record {
-      result = reply_dropped f fit ∙ so;
+    engine_found : {b' a' : List ℕ} {f : Result ℕ Failure} → FilledPowers ks es ss b a lefts rights before stack b' a' f
+        → filling_of f ≡ drop_value (tables_for (length b) (length a) (powers_in ks es ss))
+    engine_found t = t.filled.result ∙ ap (λ (o : Outcome (List SignedPower)). drop_value o) engine_judges
+
+    -- Scratch of these sizes serves.
+    pub engine_fits : {b' a' : List ℕ} → FilledPowers ks es ss b a lefts rights before stack b' a' (Err Unfit) → ⊥
+    engine_fits t = tables_numbered (length b) (length a) (powers_in ks es ss) (engine_found t)
+
+    -- What it leaves, on each answer that is one of the call's too.
+    engine_leaves : {b' a' : List ℕ} (f : Result ℕ Failure) (v : Result ℕ Refusal) → drop_value (reply_of v) ≡ filling_of f
+        → ((n : ℕ) → v ≡ Ok n → f ≡ Ok n) → FilledPowers ks es ss b a lefts rights before stack b' a' f
+        → FilledBy (powers_in ks es ss) b a b' a' v
+    engine_leaves f v same number t = record {
+      result = same ∙ engine_found t;
       b_table = t.filled.b_table ∙ ap (λ (o : Outcome (List SignedPower)). product_table b_side o b) engine_judges;
       a_table = t.filled.a_table ∙ ap (λ (o : Outcome (List SignedPower)). product_table a_side o a) engine_judges;
-      levels_read = λ n e o.
-          t.filled.levels_read n (reply_number f n fit e) (powers_in ks es ss) (engine_judges ∙ o);
+      levels_read = λ n e o. t.filled.levels_read n (number n e) (powers_in ks es ss) (engine_judges ∙ o);
     }
-      where
-        so : filling_of f ≡ drop_value (tables_for (length b) (length a) (powers_in ks es ss))
-        so = t.filled.result ∙ ap (λ (o : Outcome (List SignedPower)). drop_value o) engine_judges
 
-        fit : Fit f
-        fit = fit_outcome (length b) (length a) (powers_in ks es ss) f so
+    pub engine_fills : {b' a' : List ℕ} (n : ℕ) → FilledPowers ks es ss b a lefts rights before stack b' a' (Ok n)
+        → FilledBy (powers_in ks es ss) b a b' a' (Ok n)
+    engine_fills n t = engine_leaves (Ok n) (Ok n) refl (λ m e. let same : n ≡ m = cc in ap Ok same) t
+
+    pub engine_refuses : {b' a' : List ℕ} (q : Refusal)
+        → FilledPowers ks es ss b a lefts rights before stack b' a' (Err (Refused q))
+        → FilledBy (powers_in ks es ss) b a b' a' (Err q)
+    engine_refuses q t =
+        engine_leaves (Err (Refused q)) (Err q) refl
+        (λ m e. let z : ◌≡◌ {A = ℕ} 0 1 = cc in absurd (omega arith)) t
 
 -- Powers that were read, in the front of three arrays.
 pub held_kept : {ps : List SignedPower} {count : ℕ} {ks es ss : List ℕ} → Holding ps count ks es ss → AllInRange ps

@@ -5,13 +5,12 @@ use mathlib.Core.List.{List}
 use Prim.Native.Nat.{ℕ, ◌≤◌}
 use lib.ListN.{length, take}
 use lib.Seq.{sets}
+use Rattle.std.specs.Prelude.{Result, Ok, Err}
 use Rattle.group.specs.Limits.{limit}
 use Rattle.group.specs.Forms.{b_side, a_side}
 use Rattle.group.specs.Powers.{SignedPower, exponent_sizes}
 use Rattle.group.specs.inside.PowerLists.{powers_in}
 use Rattle.refusals.specs.declared.Refusal.{Refusal}
-use Rattle.refusals.specs.declared.Reply.{Reply}
-use Rattle.refusals.specs.declared.Reply.TheVariants as Replies
 use Rattle.refusals.specs.Refusals.{number_of, place_of}
 use Rattle.refusals.specs.Outcomes.{Outcome, accepted, refused, after, valued}
 use Rattle.refusals.specs.Memory.{Memory}
@@ -21,12 +20,10 @@ use Rattle.tokens.specs.Tokens.{AllInRange}
 use Rattle.tokens.specs.Reading.{TextRead, misspelled, large, read}
 use Rattle.tokens.specs.inside.Arrays.{tokens_of, TokensRead}
 use Rattle.tokens.specs.declared.Powers.{Powers}
-use Rattle.tokens.specs.declared.Tokens.{Tokens}
-use Rattle.tokens.specs.declared.Tokens.TheVariants.{Read, Refused}
 use Rattle.forest.specs.Filling.{product_form, product_table}
 use Rattle.notation.specs.Promises.{judged_text, TextRecorded}
-use Rattle.notation.specs.inside.Products.{Kept, ProductRecorded}
-use Rattle.notation.proofs.HeldPowers.{held_kept}
+use Rattle.notation.specs.inside.Products.{ProductRecorded}
+use Rattle.notation.proofs.HeldPowers.{Kept, held_kept}
 
 -- Powers that were read are in range, and their sizes sum to at most the limit.
 read_accepted : {t : List ℕ} {o : Outcome (List SignedPower)} (ps : List SignedPower) → TextRead t o → o ≡ accepted ps
@@ -37,9 +34,9 @@ read_accepted ps (read qs range text few) e =
     let same : qs ≡ ps = accepted_same e in
     subst (λ (us : List SignedPower). AllInRange us × (exponent_sizes us ≤ limit)) same (range, few)
 
-module _ {t ks es ss : List ℕ} {v : Tokens} (h : TokensRead t ks es ss v) where
+module _ {t ks es ss : List ℕ} {v : Result Powers Refusal} (h : TokensRead t ks es ss v) where
   -- A refusal of the reader leaves everything.
-  pub text_refused : (q : Refusal) → v ≡ Refused q → (m : Memory) → TextRecorded t m m (Replies.Refused q)
+  pub text_refused : (q : Refusal) → v ≡ Err q → (m : Memory) → TextRecorded t m m (Err q)
   text_refused q e m =
       let is : h.outcome ≡ refused (number_of q) (place_of q) =
       valued_refused exponent_sizes h.outcome (number_of q) (place_of q) (sym h.result ∙ ap tokens_of e) in
@@ -59,7 +56,7 @@ module _ {t ks es ss : List ℕ} {v : Tokens} (h : TokensRead t ks es ss v) wher
       }
 
   -- The powers that were read.
-  module _ (p : Powers) (e : v ≡ Read p) where
+  module _ (p : Powers) (e : v ≡ Ok p) where
     found : (ps : List SignedPower) × (h.outcome ≡ accepted ps) × (exponent_sizes ps ≡ p.sum)
     found = valued_accepted exponent_sizes h.outcome p.sum (sym h.result ∙ ap tokens_of e)
 
@@ -83,7 +80,7 @@ module _ {t ks es ss : List ℕ} {v : Tokens} (h : TokensRead t ks es ss v) wher
     pub text_sum : p.sum ≡ exponent_sizes powers
     text_sum = sym found.2 ∙ ap exponent_sizes (sym held)
 
-    pub text_recorded : {m m' : Memory} {r : Reply} → ProductRecorded powers m m' r
+    pub text_recorded : {m m' : Memory} {r : Result ℕ Refusal} → ProductRecorded powers m m' r
         → TextRecorded t m m' r
     text_recorded {m} {m'} {r} w =
         let same : judged_text h.outcome m ≡ judged_text (accepted powers) m =

@@ -4,13 +4,13 @@
 --     text_in s out             the text of the record s, beside a buffer, or what is refused
 --     TextWritten s t t' r     the contract of `record_to_text`: refusals 3, 4, 5 and 7, in this order
 -- Assumes nothing.
-use Rattle.std.specs.Prelude.{◌≡◌, cond, List, ℕ, length, ltb}
+use Rattle.std.specs.Prelude.{◌≡◌, cond, List, ℕ, length, ltb, Result}
 use Rattle.std.proofs.lemmas.List.Edits.{sets}
+use Rattle.refusals.specs.declared.Refusal.{Refusal}
 use Rattle.group.specs.Forms.{b_side, a_side, Form}
 use Rattle.group.specs.Powers.{SignedPower, exponent_sizes, form_powers}
 use Rattle.refusals.specs.Outcomes.{Outcome, accepted, refused, after, then, valued, reply_of}
 use Rattle.refusals.specs.Placing.{fitting, Placed}
-use Rattle.refusals.specs.declared.Reply.{Reply}
 use Rattle.refusals.specs.Memory.{Memory}
 use Rattle.fields.specs.Fields.{Bytes}
 use Rattle.records.specs.Format.{encode, buffer_size}
@@ -31,7 +31,7 @@ judged_text o m = then o (room_for (length m.b) (length m.a) (length m.buffer))
 
 -- For every text and whatever is lent with it: the value is the number of bytes of the record, which stands at the
 -- front of the buffer.
-pub record TextRecorded (t : List ℕ) (entry exit : Memory) (r : Reply) : Type 0 where
+pub record TextRecorded (t : List ℕ) (entry exit : Memory) (r : Result ℕ Refusal) : Type 0 where
   pub found : Outcome (List SignedPower)
   pub reads : TextRead t found
   pub result : reply_of r ≡ valued (λ ps. length (encode (product_form ps))) (judged_text found entry)
@@ -49,6 +49,6 @@ abbrev pub text_in : (s out : List ℕ) → Outcome (List ℕ)
 text_in s out = then (decode s) (λ f. fitting (length (form_text f)) (form_text f) out)
 
 -- The text stands at the front of the buffer; the value is the number of its bytes. What is lent as a record are bytes.
-pub record TextWritten (s out out' : List ℕ) (r : Reply) : Type 0 where
+pub record TextWritten (s out out' : List ℕ) (r : Result ℕ Refusal) : Type 0 where
   pub are_bytes : Bytes s
   pub placed : Placed (text_in s out) out out' r

@@ -4,9 +4,10 @@
 ghost use Rattle.refusals.specs.Memory.{memory};
 ghost use Rattle.notation.specs.Promises.{TextRecorded, TextWritten};
 
-use refusals::{LIMIT, Reply, Verdict};
-use tokens::Tokens;
+use powers::Powers;
+use refusals::{LIMIT, Refusal};
 
+mod powers;
 mod reading;
 mod writing;
 
@@ -17,7 +18,7 @@ pub fn text_to_record(
     b_table: &mut [u16],
     a_table: &mut [u16],
     record: &mut [u8],
-) -> Reply
+) -> Result<usize, Refusal>
     ensures { TextRecorded text.now
         (memory b_table.old a_table.old «record».old)
         (memory b_table.new a_table.new «record».new) result }
@@ -25,33 +26,27 @@ pub fn text_to_record(
     let mut indices = [0u16; LIMIT];
     let mut exponents = [0u16; LIMIT];
     let mut sides = [0u8; LIMIT];
-    let tokens = tokens::read_text(text, &mut indices, &mut exponents, &mut sides);
-    match tokens {
-        Tokens::Refused(r) => Reply::Refused(r),
-        Tokens::Read(powers) => {
-            let n = powers.count;
-            reading::record_powers(
-                &indices[..n],
-                &exponents[..n],
-                &sides[..n],
-                powers.sum,
-                b_table,
-                a_table,
-                record,
-            )
-        }
-    }
+    let tokens::Powers { count, sum } = tokens::read_text(
+        text,
+        &mut indices,
+        &mut exponents,
+        &mut sides,
+    )?;
+    let powers = Powers {
+        indices: &indices[..count],
+        exponents: &exponents[..count],
+        sides: &sides[..count],
+        sum,
+    };
+    powers.record(b_table, a_table, record)
 }
 
 // Record to text: refusals 3, 4 and 5, then 7; else the text at the front of the buffer.
-pub fn record_to_text(record: &[u8], text: &mut [u8]) -> Reply
+pub fn record_to_text(record: &[u8], text: &mut [u8]) -> Result<usize, Refusal>
     ensures { TextWritten «record».now text.old text.new result }
 {
     let mut b = [0u16; writing::TABLE];
     let mut a = [0u16; writing::TABLE];
-    let verdict = records::record_to_tables(record, &mut b, &mut a);
-    let Verdict::Accepted = verdict else {
-        return Reply::Refused(refusals::refusal_of(verdict));
-    };
+    records::record_to_tables(record, &mut b, &mut a)?;
     writing::write(&b, &a, text)
 }

@@ -9,7 +9,7 @@ ghost use Rattle.tokens.specs.Tokens.{exponent_text};
 ghost use Rattle.tokens.specs.Texts.{further_text};
 ghost use Rattle.notation.specs.inside.Tables.{rising_in, falling_in, powers_of, text_room, text_beside};
 
-use refusals::{LIMIT, Refusal, Reply};
+use refusals::{LIMIT, Refusal};
 
 // The entries of a table.
 pub const TABLE: usize = LIMIT + 1;
@@ -18,7 +18,7 @@ pub const TABLE: usize = LIMIT + 1;
 const ROOM: usize = 12 * LIMIT;
 
 // An exponent: nothing for 1, else `^` and the decimal; for an inverse always `^-` and the decimal.
-fn put_exponent(inverse: bool, e: usize, out: &mut [u8], at: usize) -> usize
+fn put_exponent(inverse: bool, e: u16, out: &mut [u8], at: usize) -> usize
     requires { at + length (exponent_text (cond inverse a_side b_side) e) ≤ length out.old }
     ensures { Wrote (exponent_text (cond inverse a_side b_side) e) out.old at out.new result }
 {
@@ -46,7 +46,7 @@ fn put_power(inverse: bool, k: usize, e: u16, out: &mut [u8], at: usize) -> usiz
     out[at] = b' ';
     out[at + 1] = b'x';
     let end = printing::put_decimal(k as u64, out, at + 2);
-    put_exponent(inverse, e as usize, out, end)
+    put_exponent(inverse, e, out, end)
 }
 
 // The b side, indices rising, at the front of the buffer.
@@ -56,46 +56,41 @@ fn write_rising(b: &[u16; TABLE], out: &mut [u8]) -> usize
     ensures { Wrote (further_text (rising_in 0 b.now)) out.old 0 out.new result }
 {
     let mut at = 0;
-    let mut k = 0;
-    while k < TABLE {
+    for k in 0..TABLE {
         at = put_power(false, k, b[k], out, at);
-        k += 1;
     }
     at
 }
 
-// The a side, indices falling, from a place on.
+// The a side, indices falling, from a place on. Not one with `write_rising`: the order is the loop's own.
 fn write_falling(a: &[u16; TABLE], out: &mut [u8], start: usize) -> usize
     requires a_len { length a.now ≡ suc limit }
     requires a_in_bounds { start + length (further_text (falling_in 0 a.now)) ≤ length out.old }
     ensures { Wrote (further_text (falling_in 0 a.now)) out.old start out.new result }
 {
     let mut at = start;
-    let mut k = TABLE;
-    while 0 < k {
-        k -= 1;
+    for k in (0..TABLE).rev() {
         at = put_power(true, k, a[k], out, at);
     }
     at
 }
 
-// The first n bytes but the first, at the front of the lent buffer, or 7.
-fn place(further: &[u8], n: usize, text: &mut [u8]) -> Reply
-    requires { n ≤ length further.now }
-    ensures { Placed (fitting (n - 1) (drop 1 (take n further.now)) text.old)
+// All bytes but the first, at the front of the lent buffer, or 7.
+fn place(further: &[u8], text: &mut [u8]) -> Result<usize, Refusal>
+    ensures { Placed (fitting (length further.now - 1) (drop 1 further.now) text.old)
         text.old text.new result }
 {
-    if n == 0 {
-        return Reply::Number(0);
+    let Some((_, tokens)) = further.split_first() else {
+        return Ok(0);
+    };
+    if text.len() < tokens.len() {
+        return Err(Refusal::ShortBuffer);
     }
-    if text.len() < n - 1 {
-        return Reply::Refused(Refusal::ShortBuffer);
-    }
-    Reply::Number(printing::put(&further[1..n], text, 0))
+    Ok(printing::put(tokens, text, 0))
 }
 
 // The text of two tables, at the front of the lent buffer, or 7.
-pub fn write(b: &[u16; TABLE], a: &[u16; TABLE], text: &mut [u8]) -> Reply
+pub fn write(b: &[u16; TABLE], a: &[u16; TABLE], text: &mut [u8]) -> Result<usize, Refusal>
     requires b_len { (length b.now ≡ suc limit) × (length a.now ≡ suc limit) }
     requires a_len_bound { length (further_text (powers_of b.now a.now)) ≤ text_room }
     ensures { Placed (text_beside (powers_of b.now a.now) text.old)
@@ -104,5 +99,5 @@ pub fn write(b: &[u16; TABLE], a: &[u16; TABLE], text: &mut [u8]) -> Reply
     let mut further = [0u8; ROOM];
     let middle = write_rising(b, &mut further);
     let end = write_falling(a, &mut further, middle);
-    place(&further, end, text)
+    place(&further[..end], text)
 }

@@ -1,5 +1,5 @@
 -- The two questions about a node of a packed shape.
---     answers_refused, answers_none, answers_beyond, answers_value   the answers
+--     answers_refused, answers_beyond, answers_value   the answers
 --     carets_counted    the masked count and the summary give the carets before the node
 --     end_reached       the walk from the node ends where its subtree does
 -- Assumes nothing.
@@ -29,7 +29,6 @@ use Rattle.bitrows.proofs.Numbers.{ones_number, total-add}
 use Rattle.packed.specs.Packing.{carets_before_value, summary_at, packed_shape}
 use Rattle.packed.specs.Promises.{asked, AnswersNode}
 use Rattle.packed.specs.inside.Steps.{shape_of}
-use Rattle.packed.proofs.Reading.{packed_refused}
 use Rattle.packed.proofs.Checks.{values_there}
 use Rattle.packed.proofs.Walks.{walk_closes}
 use Rattle.packed.proofs.Holding.{held-length, held-nodes, held_number, held_summary}
@@ -46,16 +45,6 @@ answers_refused value numbers summary node number place d e = record {
       valued value (then u (λ s. cond (ltb node (length s)) (accepted s) (refused 15 0))))
       (sym (valued_refused length (packed_shape numbers summary) number place (sym e)));
 }
-
--- It is 15.
-pub answers_none : (value : List ℕ → ℕ) (numbers summary : List ℕ) (node number place : ℕ)
-    → refused number place ≡ valued length (packed_shape numbers summary)
-    → AnswersNode value numbers summary node (refused 15 0)
-answers_none value numbers summary node number place e =
-    let x = packed_refused numbers summary number place
-    (valued_refused length (packed_shape numbers summary) number place (sym e)) in
-    answers_refused value numbers summary node number place
-    (ap₂ (λ (i j : ℕ). refused i j) (sym x.0) (sym x.1)) e
 
 -- What the test of the node makes of the shape.
 asked_by : {numbers summary : List ℕ} {n : ℕ} (node : ℕ) (b : Bool) → Checked numbers summary n → ltb node n ≡ b

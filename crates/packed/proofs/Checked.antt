@@ -8,8 +8,9 @@ use mathlib.Core.List.{List}
 use Prim.Native.Nat.{ℕ, ◌≤◌}
 use native.Mathlib.Omega.{arith}
 use lib.ListN.{length, length-take}
+use Rattle.std.specs.Prelude.{Result}
+use Rattle.refusals.specs.declared.Refusal.{Refusal}
 use Rattle.lists.specs.Tables.{filled}
-use Rattle.refusals.specs.declared.Reply.{Reply}
 use Rattle.refusals.specs.Outcomes.{Outcome, accepted, refused, after, valued, reply_of}
 use Rattle.refusals.proofs.Outcomes.{valued_accepted}
 use Rattle.trees.specs.Trees.{Tree, carets}
@@ -71,7 +72,7 @@ counting o = valued (λ s. numbers_of_value (length s)) o
 abbrev leaving : (List ℕ → ℕ → ℕ) → List ℕ → Outcome (List ℕ) → List ℕ
 leaving f t o = after o t (λ s. filled (numbers_of_value (length s)) (f s) t)
 
-module _ {o : Outcome (List ℕ)} {numbers summary : List ℕ} (r : Reply) where
+module _ {o : Outcome (List ℕ)} {numbers summary : List ℕ} (r : Result ℕ Refusal) where
   -- A refusal, and nothing is written.
   pub repacked_refused : {n p : ℕ} → o ≡ refused n p → reply_of r ≡ refused n p
       → Repacked o numbers summary numbers summary r

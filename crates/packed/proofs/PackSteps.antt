@@ -134,11 +134,6 @@ part_start w s from k e =
       packed = sym (ap pack_number_value (drop_of_length-le part whole));
     }
 
--- The next node stands in the shape.
-pub part_reads : {w : ℕ} {s : List ℕ} {from k x : ℕ} → PackingPart w s from k x → 0 < k → from + (k - 1) < length s
-part_reads {w} {s} {from} {k} {x} a h =
-    omega (arith, a.inside, length-take w (drop from s), length-drop from s)
-
 -- One node more, in front of the others.
 pub part_more : {w : ℕ} {s : List ℕ} {from k x : ℕ} → PackingPart w s from k x → 0 < k
     → PackingPart w s from (k - 1) (2 * x + get_or s (from + (k - 1)) 0)

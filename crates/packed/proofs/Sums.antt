@@ -7,9 +7,9 @@ use mathlib.Core.List.{List, [], ◌∷◌}
 use Prim.Native.Nat.{ℕ, zero, suc, ◌+◌, ◌*◌, ◌<◌, ◌≤◌}
 use native.Mathlib.Omega.{arith}
 use native.Mathlib.Decide.{dec_le}
-use lib.Count.{ones, ones-le}
+use lib.Count.{ones}
 use lib.ListN.{length, take, get_or}
-use Rattle.packed.specs.inside.Steps.{ones_in, Summed, Wide}
+use Rattle.packed.specs.inside.Steps.{ones_in, Summed}
 
 -- Amid the loop.
 pub record Summing (numbers summary : List ℕ) (n count j : ℕ) : Type 0 where
@@ -33,12 +33,9 @@ ones_more [] j h = absurd (omega arith)
 ones_more (x ∷ numbers) zero h = omega arith
 ones_more (x ∷ numbers) (suc j) h = omega (arith, ones_more numbers j (omega arith))
 
--- At most 64 of them.
-pub ones_few : (numbers : List ℕ) (j : ℕ) → Wide numbers → ones (get_or numbers j 0) ≤ 64
-ones_few numbers j h = ones-le 64 (get_or numbers j 0) (h j)
-
 -- One entry more that is right.
-pub summing_more : {numbers summary : List ℕ} {n count j : ℕ} → Summing numbers summary n count j → Wide numbers
+pub summing_more : {numbers summary : List ℕ} {n count j : ℕ} → Summing numbers summary n count j
+    → ones (get_or numbers j 0) ≤ 64
     → j < n → j < length numbers → get_or summary j 0 ≡ count
     → Summing numbers summary n (count + ones (get_or numbers j 0)) (j + 1)
 summing_more {numbers} {summary} {n} {count} {j} a h l k e =
@@ -46,7 +43,7 @@ summing_more {numbers} {summary} {n} {count} {j} a h l k e =
     record {
       right = λ i m. go i (dec_le (suc i) j) m;
       counted = omega (arith, a.counted, ones_more numbers j k, ap (λ (i : ℕ). ones_in (take i numbers)) s);
-      few = omega (arith, a.few, ones_few numbers j h);
+      few = omega (arith, a.few, h);
       within = omega arith;
     }
   where

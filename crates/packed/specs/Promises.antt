@@ -5,9 +5,9 @@
 --     asked xs ys k         the shape, where it is one and has a node k
 --     Repacked o xs ys xs' ys' r   pack_shape and grow_caret        AnswersNode value xs ys k o   the two questions
 -- Assumes nothing.
-use Rattle.std.specs.Prelude.{◌≡◌, cond, List, ℕ, length, ltb}
+use Rattle.std.specs.Prelude.{◌≡◌, cond, List, ℕ, length, ltb, Result}
+use Rattle.refusals.specs.declared.Refusal.{Refusal}
 use Rattle.lists.specs.Tables.{filled}
-use Rattle.refusals.specs.declared.Reply.{Reply}
 use Rattle.refusals.specs.Outcomes.{Outcome, accepted, refused, after, valued, then, reply_of}
 use Rattle.refusals.specs.Placing.{fitting}
 use Rattle.bitrows.specs.Numbers.{number_at, numbers_of_value}
@@ -39,7 +39,7 @@ asked numbers summary node =
 
 -- The numbers and the summary of the shape stand at the front of what was lent, and the numbers used are counted in the
 -- answer; everything behind them is unchanged, and on a refusal everything is.
-pub record Repacked (o : Outcome (List ℕ)) (numbers summary numbers' summary' : List ℕ) (r : Reply) : Type 0 where
+pub record Repacked (o : Outcome (List ℕ)) (numbers summary numbers' summary' : List ℕ) (r : Result ℕ Refusal) : Type 0 where
   pub result : reply_of r ≡ valued (λ s. numbers_of_value (length s)) o
   pub numbers_left : numbers' ≡ after o numbers (λ s. filled (numbers_of_value (length s)) (number_at s) numbers)
   pub summary_left : summary' ≡ after o summary (λ s. filled (numbers_of_value (length s)) (summary_at s) summary)

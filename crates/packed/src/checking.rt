@@ -7,31 +7,25 @@ ghost use Rattle.packed.specs.inside.Steps.{shape_of, Wide, Clear, Summed, Withi
 
 use bitrows::NODES;
 use bitrows::walk::walk_from;
-use refusals::{NodeNumber, Refusal, Reply};
+use refusals::{NodeNumber, Refusal};
 use trees::MAX_CARETS;
 
 // The numbers that some nodes take.
 pub fn numbers_of(nodes: usize) -> usize
     ensures { result ≡ numbers_of_value nodes }
 {
-    if nodes % NODES == 0 {
-        return nodes / NODES;
-    }
-    nodes / NODES + 1
+    nodes.div_ceil(NODES)
 }
 
 // The nodes of the tree that the numbers begin with.
-fn tree_nodes(numbers: &[u64]) -> Reply
+fn tree_nodes(numbers: &[u64]) -> Result<usize, Refusal>
     ensures { reply_of result ≡ valued length (tree_shape (shape_in numbers.now)) }
 {
     let w = walk_from(numbers, NodeNumber(0));
-    if w.pending > 0 {
-        return Reply::Refused(Refusal::NotTree);
+    if w.pending > 0 || 2 * MAX_CARETS + 1 < w.at {
+        return Err(Refusal::NotTree);
     }
-    if 2 * MAX_CARETS + 1 < w.at {
-        return Reply::Refused(Refusal::NotTree);
-    }
-    Reply::Number(w.at)
+    Ok(w.at)
 }
 
 // Whether the unused bits of the last number are zero.
@@ -42,54 +36,61 @@ fn is_clear(numbers: &[u64], nodes: usize) -> bool
     ensures wide { Wide numbers.now }
 {
     let last = nodes - 1;
-    (numbers[last / NODES] >> (last % NODES) as u64) >> 1 == 0
+    (numbers[last / NODES] >> (last % NODES)) >> 1 == 0
 }
 
-// Whether the first n entries of the summary count the ones of the numbers before them.
-fn is_summed(numbers: &[u64], summary: &[u16], n: usize) -> bool
-    requires n_in_bounds { n ≤ length numbers.now }
-    requires n_in_bounds_2 { n ≤ length summary.now }
-    requires n_bound { n ≤ 4294967295 }
-    ensures summed { result ≡ true → Summed numbers.now summary.now n }
-    ensures value { Summed numbers.now summary.now n → result ≡ true }
-{
-    let mut count = 0;
-    let mut j = 0;
-    while j < n {
-        if summary[j] as usize != count {
+// A packed shape as it is lent to be read: its numbers, and for each the carets in those before it. What writes them
+// takes the two slices, as C lends them.
+#[derive(Clone, Copy)]
+pub struct Packed<'a> {
+    pub numbers: &'a [u64],
+    pub summary: &'a [u16],
+}
+
+impl Packed<'_> {
+    // Whether the first n entries of the summary count the ones of the numbers before them.
+    fn is_summed(self, n: usize) -> bool
+        requires n_in_bounds { n ≤ length self.numbers.now }
+        requires n_in_bounds_2 { n ≤ length self.summary.now }
+        requires n_bound { n ≤ 4294967295 }
+        ensures summed { result ≡ true → Summed self.entry.numbers.now self.entry.summary.now n }
+        ensures value { Summed self.entry.numbers.now self.entry.summary.now n → result ≡ true }
+    {
+        let mut count = 0;
+        for j in 0..n {
+            if usize::from(self.summary[j]) != count {
+                return false;
+            }
+            count += self.numbers[j].count_ones() as usize;
+        }
+        true
+    }
+
+    // Whether so many nodes of the numbers are packed, with their summary.
+    fn is_packed(self, nodes: usize) -> bool
+        requires { Within self.numbers.now nodes }
+        ensures { result ≡ packs (shape_of self.entry.numbers.now nodes)
+            self.entry.numbers.now self.entry.summary.now }
+    {
+        let n = numbers_of(nodes);
+        if self.summary.len() < n {
             return false;
         }
-        count += u64::count_ones(numbers[j]) as usize;
-        j += 1;
+        if !is_clear(self.numbers, nodes) {
+            return false;
+        }
+        self.is_summed(n)
     }
-    true
-}
 
-// Whether so many nodes of the numbers are packed, with their summary.
-fn is_packed(numbers: &[u64], summary: &[u16], nodes: usize) -> bool
-    requires { Within numbers.now nodes }
-    ensures { result ≡ packs (shape_of numbers.now nodes) numbers.now summary.now }
-{
-    let n = numbers_of(nodes);
-    if summary.len() < n {
-        return false;
+    // The nodes of a packed shape, or refusal 15.
+    pub fn check(self) -> Result<usize, Refusal>
+        ensures { reply_of result
+            ≡ valued length (packed_shape self.entry.numbers.now self.entry.summary.now) }
+    {
+        let nodes = tree_nodes(self.numbers)?;
+        if !self.is_packed(nodes) {
+            return Err(Refusal::NotTree);
+        }
+        Ok(nodes)
     }
-    if !is_clear(numbers, nodes) {
-        return false;
-    }
-    is_summed(numbers, summary, n)
-}
-
-// The nodes of a packed shape, or refusal 15.
-pub fn check(numbers: &[u64], summary: &[u16]) -> Reply
-    ensures { reply_of result ≡ valued length (packed_shape numbers.now summary.now) }
-{
-    let counted = tree_nodes(numbers);
-    let Reply::Number(nodes) = counted else {
-        return counted;
-    };
-    if !is_packed(numbers, summary, nodes) {
-        return Reply::Refused(Refusal::NotTree);
-    }
-    counted
 }

@@ -10,83 +10,69 @@ ghost use Rattle.packed.specs.Promises.{packing, unpacking, Repacked, AnswersNod
 
 use bitrows::walk::walk_from;
 use bitrows::{NODES, carets_below};
-use refusals::{NodeNumber, Refusal, Reply};
+use checking::{Packed, numbers_of};
+use refusals::{NodeNumber, Refusal};
 
 pub mod checking;
 mod packing;
 mod unpacking;
 
-// The answer of a call that answers a node: its number, or a refusal.
-#[derive(Drop)]
-pub enum NodeEnd {
-    Node(NodeNumber),
-    Refused(Refusal),
-}
-
 // The numbers and the summary of a byte shape; answers how many numbers it takes.
-pub fn pack_shape(shape: &[u8], numbers: &mut [u64], summary: &mut [u16]) -> Reply
+pub fn pack_shape(shape: &[u8], numbers: &mut [u64], summary: &mut [u16]) -> Result<usize, Refusal>
     ensures { Repacked (packing shape.now numbers.old summary.old)
         numbers.old summary.old numbers.new summary.new result }
 {
     if !packing::is_tree(shape) {
-        return Reply::Refused(Refusal::NotTree);
+        return Err(Refusal::NotTree);
     }
-    let n = checking::numbers_of(shape.len());
-    if numbers.len() < n {
-        return Reply::Refused(Refusal::ShortBuffer);
-    }
-    if summary.len() < n {
-        return Reply::Refused(Refusal::ShortBuffer);
+    let n = numbers_of(shape.len());
+    if numbers.len() < n || summary.len() < n {
+        return Err(Refusal::ShortBuffer);
     }
     packing::put_numbers(shape, numbers, summary);
-    Reply::Number(n)
+    Ok(n)
 }
 
 // The byte shape of a packed one; answers how many bytes it has.
-pub fn unpack_shape(numbers: &[u64], summary: &[u16], shape: &mut [u8]) -> Reply
+pub fn unpack_shape(numbers: &[u64], summary: &[u16], shape: &mut [u8]) -> Result<usize, Refusal>
     ensures { Placed (unpacking numbers.now summary.now shape.old)
         shape.old shape.new result }
 {
-    let checked = checking::check(numbers, summary);
-    let Reply::Number(nodes) = checked else {
-        return checked;
-    };
+    let nodes = Packed { numbers, summary }.check()?;
     if shape.len() < nodes {
-        return Reply::Refused(Refusal::ShortBuffer);
+        return Err(Refusal::ShortBuffer);
     }
     unpacking::put_nodes(numbers, nodes, shape);
-    Reply::Number(nodes)
+    Ok(nodes)
 }
 
 // The carets before a node: the count of ones of the masked number of the node, added to the summary.
-pub fn carets_before(numbers: &[u64], summary: &[u16], node: NodeNumber) -> Reply
+pub fn carets_before(numbers: &[u64], summary: &[u16], node: NodeNumber) -> Result<usize, Refusal>
     ensures { AnswersNode (λ s. carets_before_value s node.0) numbers.now summary.now
         node.0 (reply_of result) }
 {
-    let checked = checking::check(numbers, summary);
-    let Reply::Number(nodes) = checked else {
-        return checked;
-    };
+    let nodes = Packed { numbers, summary }.check()?;
     let k = node.0;
     if nodes <= k {
-        return Reply::Refused(Refusal::NotTree);
+        return Err(Refusal::NotTree);
     }
     let j = k / NODES;
-    Reply::Number(summary[j] as usize + carets_below(numbers[j], node) as usize)
+    Ok(usize::from(summary[j]) + carets_below(numbers[j], node) as usize)
 }
 
 // Where the subtree of a node ends: the number of the node just behind its last.
-pub fn subtree_end(numbers: &[u64], summary: &[u16], node: NodeNumber) -> NodeEnd
+pub fn subtree_end(
+    numbers: &[u64],
+    summary: &[u16],
+    node: NodeNumber,
+) -> Result<NodeNumber, Refusal>
     ensures { AnswersNode (λ s. subtree_end_value s node.0) numbers.now summary.now
         node.0 (node_end_of result) }
 {
-    let checked = checking::check(numbers, summary);
-    let Reply::Number(nodes) = checked else {
-        return NodeEnd::Refused(Refusal::NotTree);
-    };
+    let nodes = Packed { numbers, summary }.check()?;
     let k = node.0;
     if nodes <= k {
-        return NodeEnd::Refused(Refusal::NotTree);
+        return Err(Refusal::NotTree);
     }
-    NodeEnd::Node(NodeNumber(walk_from(numbers, node).at))
+    Ok(NodeNumber(walk_from(numbers, node).at))
 }

@@ -17,17 +17,11 @@ pub fn is_tree(shape: &[u8]) -> bool
         return false;
     }
     let mut pending = 1;
-    let mut i = 0;
-    while i < shape.len() {
-        let node = shape[i] as usize;
-        if pending == 0 {
+    for &node in shape {
+        if pending == 0 || node > 1 {
             return false;
         }
-        if node > 1 {
-            return false;
-        }
-        pending = pending + 2 * node - 1;
-        i += 1;
+        pending = pending + 2 * usize::from(node) - 1;
     }
     pending == 0
 }
@@ -36,14 +30,7 @@ pub fn is_tree(shape: &[u8]) -> bool
 fn nodes_from(nodes: usize, from: usize) -> usize
     ensures { result ≡ min (nodes - from) 64 }
 {
-    if nodes <= from {
-        return 0;
-    }
-    if nodes - from < NODES {
-        nodes - from
-    } else {
-        NODES
-    }
+    nodes.saturating_sub(from).min(NODES)
 }
 
 // The number of the nodes from a place of a shape on: the last node first, each one bit higher than the one before.
@@ -51,11 +38,9 @@ fn pack_number(shape: &[u8], from: usize) -> u64
     requires { FewNodes shape.now }
     ensures { result ≡ pack_number_value (take 64 (drop from shape.now)) }
 {
-    let mut k = nodes_from(shape.len(), from);
-    let mut x: u64 = 0;
-    while k > 0 {
-        k -= 1;
-        x = 2 * x + shape[from + k] as u64;
+    let mut x = 0;
+    for k in (0..nodes_from(shape.len(), from)).rev() {
+        x = 2 * x + u64::from(shape[from + k]);
     }
     x
 }
@@ -70,13 +55,11 @@ pub fn put_numbers(shape: &[u8], numbers: &mut [u64], summary: &mut [u16])
         (summary_at shape.now) summary.old }
 {
     let n = numbers_of(shape.len());
-    let mut count: u16 = 0;
-    let mut j = 0;
-    while j < n {
+    let mut count = 0;
+    for j in 0..n {
         let x = pack_number(shape, NODES * j);
         numbers[j] = x;
         summary[j] = count;
-        count += u64::count_ones(x) as u16;
-        j += 1;
+        count += x.count_ones() as u16;
     }
 }

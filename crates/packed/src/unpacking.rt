@@ -11,7 +11,7 @@ fn node_at(numbers: &[u64], node: usize) -> u8
     requires { node < 64 * length numbers.now }
     ensures { result ≡ get_or (nodes_in numbers.now) node 0 }
 {
-    ((numbers[node / NODES] >> (node % NODES) as u64) % 2) as u8
+    ((numbers[node / NODES] >> (node % NODES)) % 2) as u8
 }
 
 // The first n nodes, a byte each.
@@ -20,9 +20,7 @@ pub fn put_nodes(numbers: &[u64], n: usize, shape: &mut [u8])
     requires n_in_bounds { n ≤ length shape.old }
     ensures { shape.new ≡ sets shape.old 0 (shape_of numbers.now n) }
 {
-    let mut i = 0;
-    while i < n {
+    for i in 0..n {
         shape[i] = node_at(numbers, i);
-        i += 1;
     }
 }

@@ -6,8 +6,9 @@
 --     Measured         the contract of `record_to_length`, with `form_length`, and of `record_to_label_length`, with
 --                      `label_sum`
 -- Assumes nothing.
-use Rattle.std.specs.Prelude.{◌≡◌, cond, List, ℕ, length, ltb}
+use Rattle.std.specs.Prelude.{◌≡◌, cond, List, ℕ, length, ltb, Result}
 use Rattle.std.proofs.lemmas.List.Edits.{sets}
+use Rattle.refusals.specs.declared.Refusal.{Refusal}
 use Rattle.group.specs.Forms.{Form}
 use Rattle.refusals.specs.Outcomes.{Outcome, accepted, refused, after, then, valued, reply_of}
 use Rattle.records.specs.Reading.{decode}
@@ -16,7 +17,6 @@ use Rattle.trees.specs.Trees.{Tree}
 use Rattle.trees.specs.Pairs.{carets_of, minus_tree, plus_tree}
 use Rattle.trees.specs.Shapes.{shape, shape_size}
 use Rattle.geodesics.specs.Table1.{label_length}
-use Rattle.refusals.specs.declared.Reply.{Reply}
 
 -- The form of a record, beside buffers of the lengths m and p: both need room for a shape of N carets.
 abbrev pub paired_in : (s : List ℕ) (m p : ℕ) → Outcome Form
@@ -30,7 +30,7 @@ abbrev pub tree_after : (Form → Tree) → Outcome Form → List ℕ → List �
 tree_after tree o buffer = after o buffer (λ f. sets buffer 0 (shape (tree f)))
 
 -- N, and the shapes of T− and T+ at the front of the first and the second buffer. What is lent as a record are bytes.
-pub record Paired (s minus plus minus' plus' : List ℕ) (r : Reply) : Type 0 where
+pub record Paired (s minus plus minus' plus' : List ℕ) (r : Result ℕ Refusal) : Type 0 where
   pub are_bytes : Bytes s
   pub result : reply_of r ≡ valued carets_of (paired_in s (length minus) (length plus))
   pub t_minus : minus' ≡ tree_after minus_tree (paired_in s (length minus) (length plus)) minus
@@ -41,6 +41,6 @@ abbrev pub label_sum : Form → ℕ
 label_sum f = label_length (minus_tree f) (plus_tree f)
 
 -- The count of the record's form, or its refusal. What is lent as a record are bytes.
-pub record Measured (count : Form → ℕ) (s : List ℕ) (r : Reply) : Type 0 where
+pub record Measured (count : Form → ℕ) (s : List ℕ) (r : Result ℕ Refusal) : Type 0 where
   pub are_bytes : Bytes s
   pub result : reply_of r ≡ valued count (decode s)

@@ -4,31 +4,32 @@ use mathlib.Core.List.{List, [], ◌∷◌, ◌++◌}
 use Prim.Native.Nat.{ℕ, suc, ◌+◌, ◌-◌, ◌*◌, ◌≤◌, ◌<◌}
 use native.Mathlib.Numerals.{add-one}
 use native.Mathlib.Omega.{arith}
-use lib.ListN.{get_or}
 use Rattle.numerals.specs.Decimals.{ascii}
 use Rattle.lengths.specs.Kinds.{Kind}
+use Rattle.pictures.specs.declared.spans.CaretSpan.{CaretSpan}
 use Rattle.pictures.specs.Spans.{Span}
 use Rattle.pictures.specs.Svg.{caret_numbers, caret_svg, carets_svg, leaf_svg, leaves_svg}
-use Rattle.pictures.specs.inside.Tables.{span_at, table_kind, table_kinds, carets_from}
-use Rattle.pictures.proofs.Tables.{spans_next, spans_none, kinds_next, span_same}
+use Rattle.pictures.specs.inside.Tables.{span_in, span_at, table_kind, table_kinds, carets_from}
+use Rattle.pictures.proofs.Tables.{spans_next, spans_none, kinds_next}
 
--- The numbers in the text of a caret, by the entries of its row.
-pub caret_numbers_lem : (tab : List ℕ) (k f w : ℕ) → f ≡ get_or tab (2 * k) 0 → w ≡ get_or tab (2 * k + 1) 0
-    → (32 * f) ∷ (16 * (f + (f + w))) ∷ (16 * w) ∷ (32 * (f + w)) ∷ (16 * (f + (f + w))) ∷ (16 * w) ∷ []
-    ≡ caret_numbers (span_at tab k)
-caret_numbers_lem tab k f w p q =
+-- The numbers in the text of a caret, by its row.
+pub caret_numbers_lem : (r : CaretSpan)
+    → (32 * r.first) ∷ (16 * (r.first + (r.first + r.width))) ∷ (16 * r.width) ∷ (32 * (r.first + r.width))
+    ∷ (16 * (r.first + (r.first + r.width))) ∷ (16 * r.width) ∷ [] ≡ caret_numbers (span_in r)
+caret_numbers_lem r =
+    let f = r.first in
+    let w = r.width in
     let e : w ≡ f + w - f = omega arith in
     ap (λ (v : ℕ). (32 * f) ∷ (16 * (f + (f + w))) ∷ (16 * v) ∷ (32 * (f + w)) ∷ (16 * (f + (f + w))) ∷ (16 * v) ∷ []) e
-    ∙ ap caret_numbers (span_same tab k f w p q)
 
 -- The first of the carets from k on.
-pub carets_next : (tab : List ℕ) (n k : ℕ) → k < n
+pub carets_next : (tab : List CaretSpan) (n k : ℕ) → k < n
     → carets_from tab n k ≡ caret_svg (span_at tab k) (table_kind tab n k) ++ carets_from tab n (k + 1)
 carets_next tab n k h =
     ap₂ (λ (ss : List Span) (ks : List Kind). carets_svg ss ks) (spans_next tab n k h) (kinds_next tab n k h)
 
 -- Behind the last caret.
-pub carets_none : (tab : List ℕ) (n k : ℕ) → n ≤ k → carets_from tab n k ≡ ascii "</g>\n"
+pub carets_none : (tab : List CaretSpan) (n k : ℕ) → n ≤ k → carets_from tab n k ≡ ascii "</g>\n"
 carets_none tab n k h = ap (λ (ss : List Span). carets_svg ss (table_kinds tab n k)) (spans_none tab n k h)
 
 -- All leaves.

@@ -1,35 +1,20 @@
 -- The cells and the rows of the picture in characters. Assumes nothing.
-use mathlib.Core.Path.{◌≡◌, refl, sym, ap, ◌∙◌}
+use mathlib.Core.Path.{◌≡◌, refl, sym, ap, ap₂, ◌∙◌}
 use mathlib.Core.List.{List, [], ◌∷◌, ◌++◌}
 use Prim.Native.Nat.{ℕ, zero, suc, ◌+◌, ◌-◌, ◌*◌, ◌≤◌, ◌<◌}
 use native.Mathlib.Numerals.{add-one}
 use native.Mathlib.Omega.{arith}
-use borrow.Author.Tests.{lt-ltb, le-ltb, eq-eqb, ne_eqb}
+use borrow.Author.Tests.{eq-eqb, ne_eqb}
 use Rattle.numerals.specs.Decimals.{ascii}
-use Rattle.pictures.specs.Spans.{Span, width}
-use Rattle.pictures.specs.Characters.{space, upward, downward, stroke_of, first_sign, cell_of, cells_from, row_of}
+use Rattle.pictures.specs.declared.spans.CaretSpan.{CaretSpan}
+use Rattle.pictures.specs.Spans.{Span}
+use Rattle.pictures.specs.Characters.{space, stroke_of, first_sign, cell_of, cells_from, row_of}
 use Rattle.pictures.specs.Characters.{rows_of, number_rows}
 use Rattle.pictures.specs.inside.Tables.{span_at, spans_at}
-use Rattle.pictures.proofs.Tables.{spans_next, spans_none}
-
--- What a caret shows: above its apex, on its left leg, on its right leg, elsewhere.
-module _ (s : Span) (h c : ℕ) where
-  pub stroke_above : width s < h → stroke_of s h c ≡ space
-  stroke_above a = simp (lt-ltb (width s) h a)
-
-  pub stroke_up : h ≤ width s → c + 1 ≡ 2 * s.first + h → stroke_of s h c ≡ upward
-  stroke_up a e = simp (le-ltb (width s) h a, eq-eqb (c + 1) (2 * s.first + h) e)
-
-  pub stroke_down : h ≤ width s → (c + 1 ≡ 2 * s.first + h → ⊥) → c + h ≡ 2 * s.last → stroke_of s h c ≡ downward
-  stroke_down a e f =
-      simp (le-ltb (width s) h a, ne_eqb (c + 1) (2 * s.first + h) e, eq-eqb (c + h) (2 * s.last) f)
-
-  pub stroke_none : h ≤ width s → (c + 1 ≡ 2 * s.first + h → ⊥) → (c + h ≡ 2 * s.last → ⊥) → stroke_of s h c ≡ space
-  stroke_none a e f =
-      simp (le-ltb (width s) h a, ne_eqb (c + 1) (2 * s.first + h) e, ne_eqb (c + h) (2 * s.last) f)
+use Rattle.pictures.proofs.Tables.{spans_next}
 
 -- What the carets from k on show, by what caret k shows.
-module _ (tab : List ℕ) (n k h c : ℕ) where
+module _ (tab : List CaretSpan) (n k h c : ℕ) where
   cell_next : (x : ℕ) → k < n → x ≡ stroke_of (span_at tab k) h c
       → cell_of (spans_at tab k (n - k)) h c ≡ first_sign x (cell_of (spans_at tab (k + 1) (n - (k + 1))) h c)
   cell_next x below e =
@@ -43,9 +28,6 @@ module _ (tab : List ℕ) (n k h c : ℕ) where
   pub cell_later : (x : ℕ) → k < n → x ≡ stroke_of (span_at tab k) h c → x ≡ space
       → cell_of (spans_at tab k (n - k)) h c ≡ cell_of (spans_at tab (k + 1) (n - (k + 1))) h c
   cell_later x below e none = cell_next x below e ∙ simp (eq-eqb x space none)
-
-  pub cell_none : n ≤ k → cell_of (spans_at tab k (n - k)) h c ≡ space
-  cell_none above = ap (λ (ss : List Span). cell_of ss h c) (spans_none tab n k above)
 
 -- The first of the cells from column c on.
 pub cells_next : (ss : List Span) (n h c : ℕ) → c + h ≤ 2 * n
@@ -66,10 +48,12 @@ cells_all ss n h =
     let e : 2 * n + 1 - (0 + h) ≡ 2 * n + 1 - h = omega arith in ap (cells_from ss h 0) e
 
 -- The first of the rows from h down.
-pub rows_next : (ss : List Span) (n h : ℕ) → 0 < h → rows_of ss n h ≡ row_of ss n h ++ rows_of ss n (h - 1)
+pub rows_next : (ss : List Span) (n h : ℕ) → 0 < h → rows_of ss n h ≡ row_of ss n (h - 1 + 1) ++ rows_of ss n (h - 1)
 rows_next ss n zero some = absurd (omega (arith, some))
 rows_next ss n (suc h) some =
-    let e : h ≡ suc h - 1 = omega arith in ap (λ (j : ℕ). row_of ss n (suc h) ++ rows_of ss n j) e
+    let e : h ≡ suc h - 1 = omega arith in
+    let f : suc h ≡ suc h - 1 + 1 = omega arith in
+    ap₂ (λ (i j : ℕ). row_of ss n i ++ rows_of ss n j) f e
 
 -- Below the last row.
 pub rows_none : (ss : List Span) (n h : ℕ) → h ≤ 0 → rows_of ss n h ≡ number_rows n

@@ -3,19 +3,17 @@ use mathlib.Core.Path.{◌≡◌, ap}
 use mathlib.Core.List.{List, ◌∷◌, ◌++◌}
 use Prim.Native.Nat.{ℕ, ◌+◌, ◌≤◌, ◌<◌}
 use Rattle.numerals.specs.Decimals.{ascii}
+use Rattle.pictures.specs.declared.spans.CaretSpan.{CaretSpan}
 use Rattle.pictures.specs.Texts.{kind_name}
 use Rattle.pictures.specs.Characters.{space, later_line, kinds_line}
 use Rattle.pictures.specs.inside.Tables.{table_kind, table_kinds}
 use Rattle.pictures.proofs.Tables.{kinds_next, kinds_none}
 
-module _ (tab : List ℕ) (n : ℕ) where
+module _ (tab : List CaretSpan) (n : ℕ) where
   -- The first kind, and no kind.
   pub line_first : 0 < n
       → kinds_line (table_kinds tab n 0) ≡ kind_name (table_kind tab n 0) ++ later_line (table_kinds tab n 1)
   line_first h = ap kinds_line (kinds_next tab n 0 h)
-
-  pub line_none : n ≤ 0 → kinds_line (table_kinds tab n 0) ≡ ascii "\n"
-  line_none h = ap kinds_line (kinds_none tab n 0 h)
 
   -- A later kind, and the end of the line.
   pub later_next : (k : ℕ) → k < n

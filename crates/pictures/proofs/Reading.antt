@@ -1,33 +1,41 @@
 -- The reading of the spans of a subtree: no node, a leaf, a caret. Assumes nothing.
-use mathlib.Core.Path.{◌≡◌, refl, sym, ap, ap₂, subst, ◌∙◌}
+use mathlib.Core.Path.{◌≡◌, refl, sym, ap, ap₂, ◌∙◌}
 use mathlib.Core.List.{List, [], ◌∷◌, ◌++◌, append_assoc}
 use Prim.Native.Nat.{ℕ, suc, ◌+◌, ◌-◌, ◌*◌, ◌/◌, ◌≤◌, ◌<◌}
 use native.Mathlib.Omega.{arith}
 use lib.ListN.{length, get_or, drop, set, drop_of_length-le}
 use lib.Seq.{sets, set_comm, drop-cons, drop-drop, drop_at}
-use Rattle.lists.specs.inside.Writes.{Wrote}
-use Rattle.lists.proofs.Writes.{write_then, wrote_same}
 use Rattle.trees.specs.Trees.{Tree, leaf, caret, carets}
 use Rattle.trees.specs.Shapes.{shape}
 use Rattle.trees.proofs.Shapes.{shape-length}
-use Rattle.pictures.specs.Spans.{Span, width, spans_from, drawn}
-use Rattle.pictures.specs.inside.Tables.{table_rows, SpansRead}
+use Rattle.pictures.specs.declared.spans.CaretSpan.{CaretSpan}
+use Rattle.pictures.specs.Spans.{Span, spans_from, drawn}
+use Rattle.pictures.proofs.SpanClasses.{spans-length}
+use Rattle.pictures.specs.inside.Tables.{row_of_span, table_rows, SpansRead}
 
 -- The rows of spans in two parts, and their number.
 rows_append : (a b : List Span) → table_rows (a ++ b) ≡ table_rows a ++ table_rows b
 rows_append [] b = refl
-rows_append (s ∷ a) b = ap (λ (l : List ℕ). s.first ∷ width s ∷ l) (rows_append a b)
+rows_append (s ∷ a) b = ap (λ (l : List CaretSpan). row_of_span s ∷ l) (rows_append a b)
 
-pub rows_length : (ss : List Span) → length (table_rows ss) ≡ 2 * length ss
+pub rows_length : (ss : List Span) → length (table_rows ss) ≡ length ss
 rows_length [] = refl
-rows_length (s ∷ ss) = omega (arith, rows_length ss)
+rows_length (s ∷ ss) = ap suc (rows_length ss)
 
 -- A store in front of a run of stores may come before it.
-set-sets : (l : List ℕ) (i j x : ℕ) (b : List ℕ) → i < j → set (sets l j b) i x ≡ sets (set l i x) j b
+set-sets : (l : List CaretSpan) (i j : ℕ) (x : CaretSpan) (b : List CaretSpan) → i < j
+    → set (sets l j b) i x ≡ sets (set l i x) j b
 set-sets l i j x [] h = refl
 set-sets l i j x (y ∷ b) h =
     set-sets (set l j y) i (suc j) x b (omega (arith, h))
-    ∙ ap (λ (m : List ℕ). sets m (suc j) b) (set_comm l j i y x (λ e. omega (arith, h, e)))
+    ∙ ap (λ (m : List CaretSpan). sets m (suc j) b) (set_comm l j i y x (λ e. omega (arith, h, e)))
+
+-- Stores behind others.
+sets-two : (a l : List CaretSpan) (i : ℕ) (b : List CaretSpan) → sets (sets l i a) (i + length a) b ≡ sets l i (a ++ b)
+sets-two [] l i b = let e : i + 0 ≡ i = omega arith in ap (λ (k : ℕ). sets l k b) e
+sets-two (x ∷ a) l i b =
+    let e : i + suc (length a) ≡ suc i + length a = omega arith in
+    ap (λ (k : ℕ). sets (sets (set l i x) (suc i) a) k b) e ∙ sets-two a (set l i x) (suc i) b
 
 -- The bytes from a node on begin with its own.
 node_byte : (bytes rest : List ℕ) (at b : ℕ) → at < length bytes → drop at bytes ≡ b ∷ rest → get_or bytes at 0 ≡ b
@@ -39,7 +47,7 @@ shape_some leaf rest e = let z : ◌≡◌ {A = ℕ} 0 1 = cc in omega arith
 shape_some (caret l r) rest e = let z : ◌≡◌ {A = ℕ} 0 1 = cc in omega arith
 
 -- Behind the last node.
-pub read_none : {bytes : List ℕ} {at first : ℕ} (tab : List ℕ) → at ≡ length bytes
+pub read_none : {bytes : List ℕ} {at first : ℕ} (tab : List CaretSpan) → at ≡ length bytes
     → SpansRead bytes at first tab tab at
 read_none {bytes} {at} {first} tab h = record {
   on = omega arith;
@@ -49,7 +57,7 @@ read_none {bytes} {at} {first} tab h = record {
 }
 
 -- A leaf.
-pub read_leaf : {bytes : List ℕ} {at first : ℕ} (tab : List ℕ) → at < length bytes → get_or bytes at 0 ≡ 0
+pub read_leaf : {bytes : List ℕ} {at first : ℕ} (tab : List CaretSpan) → at < length bytes → get_or bytes at 0 ≡ 0
     → SpansRead bytes at first tab tab (at + 1)
 read_leaf {bytes} {at} {first} tab h zero-byte = record {
   on = omega arith;
@@ -59,36 +67,28 @@ read_leaf {bytes} {at} {first} tab h zero-byte = record {
 }
   where
     go : (t : Tree) (rest : List ℕ) → drop at bytes ≡ shape t ++ rest → first + carets t ≤ drawn
-        → (at + 1 ≡ at + (2 * carets t + 1))
-        × Wrote (table_rows (spans_from first t)) tab (2 * first) tab (2 * (first + carets t))
-    go leaf rest e few = (omega arith, record { ends = omega arith; holds = refl })
+        → (at + 1 ≡ at + (2 * carets t + 1)) × (tab ≡ sets tab first (table_rows (spans_from first t)))
+    go leaf rest e few = (omega arith, refl)
     go (caret l r) rest e few =
         absurd (omega (arith, zero-byte, node_byte bytes ((shape l ++ shape r) ++ rest) at 1 h e))
 
 -- A caret: its left subtree, its right subtree, its own row.
-module _ {bytes tab one two end : List ℕ} {at first right last : ℕ} (mid : ℕ) (h : at < length bytes)
+module _ {bytes : List ℕ} {tab one two end : List CaretSpan} {at first right last : ℕ} (mid : ℕ) (h : at < length bytes)
     (some : get_or bytes at 0 ≡ 0 → ⊥) (place : mid ≡ first + (right - at - 1) / 2)
     (left : SpansRead bytes (at + 1) first tab one right) (other : SpansRead bytes right (mid + 1) one two last)
-    (kept : mid < drawn → end ≡ sets two (2 * mid) (first ∷ (last - at) / 2 ∷ [])) where
+    (kept : mid < drawn → end ≡ set two mid (record { first = first; width = (last - at) / 2 })) where
   -- The rows of the right subtree, with the caret's own in front.
-  own_row : (rows : List ℕ) (w stop : ℕ) → mid < drawn → (last - at) / 2 ≡ w → Wrote rows one (2 * (mid + 1)) two stop
-      → Wrote (first ∷ w ∷ rows) one (2 * mid) end stop
-  own_row rows w stop few e wrote =
-      let next : 2 * (mid + 1) ≡ suc (suc (2 * mid)) = omega arith in
-      let run : two ≡ sets one (suc (suc (2 * mid))) rows =
-      wrote.holds ∙ ap (λ (k : ℕ). sets one k rows) next in
-      record {
-        ends = omega (arith, wrote.ends);
-        holds = kept few
-            ∙ ap₂ (λ (v : ℕ) (s : List ℕ). set (set s (2 * mid) first) (suc (2 * mid)) v) e run
-            ∙ ap (λ (s : List ℕ). set s (suc (2 * mid)) w)
-            (set-sets one (2 * mid) (suc (suc (2 * mid))) first rows (omega arith))
-            ∙ set-sets (set one (2 * mid) first) (suc (2 * mid)) (suc (suc (2 * mid))) w rows (omega arith);
-      }
+  own_row : (rows : List CaretSpan) (w : ℕ) → mid < drawn → (last - at) / 2 ≡ w → two ≡ sets one (mid + 1) rows
+      → end ≡ sets one mid (record { first = first; width = w } ∷ rows)
+  own_row rows w few e wrote =
+      let next : mid + 1 ≡ suc mid = omega arith in
+      kept few
+      ∙ ap₂ (λ (v : ℕ) (s : List CaretSpan). set s mid (record { first = first; width = v })) e
+      (wrote ∙ ap (λ (k : ℕ). sets one k rows) next)
+      ∙ set-sets one mid (suc mid) (record { first = first; width = w }) rows (omega arith)
 
   caret_holds : (t : Tree) (rest : List ℕ) → drop at bytes ≡ shape t ++ rest → first + carets t ≤ drawn
-      → (last ≡ at + (2 * carets t + 1))
-      × Wrote (table_rows (spans_from first t)) tab (2 * first) end (2 * (first + carets t))
+      → (last ≡ at + (2 * carets t + 1)) × (end ≡ sets tab first (table_rows (spans_from first t)))
   caret_holds leaf rest e few = absurd (some (node_byte bytes rest at 0 h e))
   caret_holds (caret l r) rest e few = go (left.holds l (shape r ++ rest) below (omega (arith, few)))
     where
@@ -96,11 +96,9 @@ module _ {bytes tab one two end : List ℕ} {at first right last : ℕ} (mid : �
       below =
           sym (drop-drop 1 at bytes) ∙ ap (drop 1) e ∙ append_assoc (shape l) (shape r) rest
 
-      go : (right ≡ at + 1 + (2 * carets l + 1))
-          × Wrote (table_rows (spans_from first l)) tab (2 * first) one (2 * (first + carets l))
+      go : (right ≡ at + 1 + (2 * carets l + 1)) × (one ≡ sets tab first (table_rows (spans_from first l)))
           → (last ≡ at + (2 * (carets l + suc (carets r)) + 1))
-          × Wrote (table_rows (spans_from first (caret l r))) tab (2 * first) end
-          (2 * (first + (carets l + suc (carets r))))
+          × (end ≡ sets tab first (table_rows (spans_from first (caret l r))))
       go (ends, wrote) = finish (other.holds r rest behind (omega (arith, few, middle)))
         where
           middle : mid ≡ first + carets l
@@ -113,29 +111,24 @@ module _ {bytes tab one two end : List ℕ} {at first right last : ℕ} (mid : �
               ∙ ap (drop (2 * carets l + 1)) below
               ∙ drop_at (shape l) (shape r ++ rest) (2 * carets l + 1) (shape-length l)
 
-          finish : (last ≡ right + (2 * carets r + 1))
-              × Wrote (table_rows (spans_from (mid + 1) r)) one (2 * (mid + 1)) two (2 * (mid + 1 + carets r))
+          finish : (last ≡ right + (2 * carets r + 1)) × (two ≡ sets one (mid + 1) (table_rows (spans_from (mid + 1) r)))
               → (last ≡ at + (2 * (carets l + suc (carets r)) + 1))
-              × Wrote (table_rows (spans_from first (caret l r))) tab (2 * first) end
-              (2 * (first + (carets l + suc (carets r))))
+              × (end ≡ sets tab first (table_rows (spans_from first (caret l r))))
           finish (stops, later) =
               let w = first + suc (carets l + carets r) - first in
-              let own = own_row (table_rows (spans_from (mid + 1) r)) w (2 * (mid + 1 + carets r))
-              (omega (arith, few, middle)) (omega (arith, ends, stops)) later in
+              let rows = table_rows (spans_from (mid + 1) r) in
+              let front = table_rows (spans_from first l) in
+              let own : CaretSpan = record { first = first; width = w } in
               let from : mid + 1 ≡ suc (first + carets l) = omega (arith, middle) in
-              let at_mid : 2 * mid ≡ 2 * (first + carets l) = omega (arith, middle) in
-              let stop : 2 * (mid + 1 + carets r) ≡ 2 * (first + (carets l + suc (carets r))) = omega (arith, middle) in
-              let named = subst (λ (k : ℕ). Wrote (first ∷ w ∷ table_rows (spans_from (mid + 1) r)) one k end
-              (2 * (mid + 1 + carets r))) at_mid own in
-              let joined = write_then wrote named in
-              let same : table_rows (spans_from first l) ++ (first ∷ w ∷ table_rows (spans_from (mid + 1) r))
-              ≡ table_rows (spans_from first (caret l r)) =
-              ap (λ (k : ℕ). table_rows (spans_from first l) ++ (first ∷ w ∷ table_rows (spans_from k r))) from
-              ∙ sym (rows_append (spans_from first l) _) in (
-                omega (arith, ends, stops),
-                subst (λ (k : ℕ). Wrote (table_rows (spans_from first (caret l r))) tab (2 * first) end k) stop
-                    (wrote_same same joined),
-              )
+              let place_of : mid ≡ first + length front =
+              omega (arith, middle, rows_length (spans_from first l), spans-length first l) in
+              let joined : end ≡ sets tab first (front ++ (own ∷ rows)) =
+              own_row rows w (omega (arith, few, middle)) (omega (arith, ends, stops)) later
+              ∙ ap₂ (λ (k : ℕ) (s : List CaretSpan). sets s k (own ∷ rows)) place_of wrote
+              ∙ sets-two front tab first (own ∷ rows) in
+              let same : front ++ (own ∷ rows) ≡ table_rows (spans_from first (caret l r)) =
+              ap (λ (k : ℕ). front ++ (own ∷ table_rows (spans_from k r))) from ∙ sym (rows_append (spans_from first l) _) in
+              (omega (arith, ends, stops), joined ∙ ap (sets tab first) same)
 
   pub read_caret : SpansRead bytes at first tab end last
   read_caret = record {

@@ -3,105 +3,97 @@ ghost use Rattle.std.specs.Prelude.{◌≡◌, ◌+◌, ◌*◌, ◌<◌, ◌≤
 ghost use Rattle.appending.specs.inside.Appending.{Appended};
 ghost use Rattle.trees.specs.Trees.{Tree, carets};
 ghost use Rattle.trees.specs.Shapes.{shape as shape_of};
-ghost use Rattle.pictures.specs.Spans.{span, drawn};
+ghost use Rattle.pictures.specs.Spans.{drawn};
 ghost use Rattle.pictures.specs.Characters.{stroke_of, cell_of, row_of, rows_of, kinds_line, foot_characters};
 ghost use Rattle.pictures.specs.Characters.{tree_characters};
-ghost use Rattle.pictures.specs.inside.Tables.{table_spans, table_kinds, table_characters, Cell};
+ghost use Rattle.pictures.specs.inside.Tables.{span_in, table_spans, table_kinds, table_characters, Cell};
 
-use crate::spans::ENTRIES;
-use crate::{kinds, numbers, spans, text};
+use crate::spans::{CaretSpan, Spans};
+use crate::{numbers, text};
 
-// What a caret shows in column c of row h.
-fn stroke(first: usize, width: usize, h: usize, c: usize) -> u8
-    requires { (first < 65536) × (width < 65536) × (h ≤ drawn) × (c ≤ 2 * drawn) }
-    ensures { result ≡ stroke_of (span first (first + width)) h c }
-{
-    if width < h {
-        return b' ';
-    }
-    if c + 1 == 2 * first + h {
-        return b'/';
-    }
-    if c + h == 2 * (first + width) {
-        return b'\\';
-    }
-    b' '
-}
-
-// What the carets show in column c of row h.
-fn cell(table: &[u16; ENTRIES], n: usize, h: usize, c: usize) -> u8
-    requires { Cell n h c }
-    ensures { result ≡ cell_of (table_spans table.now n) h c }
-{
-    let mut k = 0;
-    while k < n {
-        let x = stroke(spans::first(table, k), spans::width(table, k), h, c);
-        if x != b' ' {
-            return x;
+impl CaretSpan {
+    // What the caret shows in column c of row h.
+    fn stroke(self, h: usize, c: usize) -> u8
+        requires { (h ≤ drawn) × (c ≤ 2 * drawn) }
+        ensures { result ≡ stroke_of (span_in self) h c }
+    {
+        if (self.width as usize) < h {
+            b' '
+        } else if c + 1 == 2 * self.first as usize + h {
+            b'/'
+        } else if c + h == 2 * self.last() {
+            b'\\'
+        } else {
+            b' '
         }
-        k += 1;
     }
-    b' '
 }
 
-// Row h.
-fn put_row(table: &[u16; ENTRIES], n: usize, h: usize, out: &mut [u8], at: usize) -> usize
-    requires { (n ≤ drawn) × (h ≤ n) }
-    ensures { Appended (row_of (table_spans table.now n) n h) out.old at
-        out.new result }
-{
-    let mut end = at;
-    let mut c = 0;
-    while c + h <= 2 * n {
-        end = appending::append_byte(cell(table, n, h, c), out, end);
-        c += 1;
+impl Spans {
+    // What the carets show in column c of row h.
+    fn cell(&self, h: usize, c: usize) -> u8
+        requires { Cell self.now.carets h c }
+        ensures { result ≡ cell_of (table_spans self.now.table self.now.carets) h c }
+    {
+        for span in &self.table[..self.carets] {
+            let x = span.stroke(h, c);
+            if x != b' ' {
+                return x;
+            }
+        }
+        b' '
     }
-    appending::append(b"\n", out, end)
-}
 
-// The rows from the top, and the numbers of the leaves below them.
-fn put_rows(table: &[u16; ENTRIES], n: usize, out: &mut [u8], at: usize) -> usize
-    requires { n ≤ drawn }
-    ensures { Appended (rows_of (table_spans table.now n) n n) out.old at
-        out.new result }
-{
-    let mut end = at;
-    let mut h = n;
-    while 0 < h {
-        end = put_row(table, n, h, out, end);
-        h -= 1;
+    // Row h.
+    fn put_row(&self, h: usize, out: &mut [u8], at: usize) -> usize
+        requires { h ≤ self.now.carets }
+        ensures { Appended (row_of (table_spans self.now.table self.now.carets) self.now.carets h) out.old at
+            out.new result }
+    {
+        let mut end = at;
+        for c in 0..2 * self.carets + 1 - h {
+            end = appending::append_byte(self.cell(h, c), out, end);
+        }
+        appending::append(b"\n", out, end)
     }
-    numbers::put_numbers(n, out, end)
-}
 
-// The kinds of the carets.
-fn put_kinds(table: &[u16; ENTRIES], n: usize, out: &mut [u8], at: usize) -> usize
-    requires { n ≤ drawn }
-    ensures { Appended (kinds_line (table_kinds table.now n 0)) out.old at
-        out.new result }
-{
-    if n == 0 {
-        return appending::append(b"\n", out, at);
+    // The rows from the top, and the numbers of the leaves below them.
+    fn put_rows(&self, out: &mut [u8], at: usize) -> usize
+        ensures { Appended (rows_of (table_spans self.now.table self.now.carets) self.now.carets self.now.carets) out.old at
+            out.new result }
+    {
+        let mut end = at;
+        for h in (0..self.carets).rev() {
+            end = self.put_row(h + 1, out, end);
+        }
+        numbers::put_numbers(self.carets, out, end)
     }
-    let mut end = kinds::put_kind(table, 0, n, out, at);
-    let mut k = 1;
-    while k < n {
-        let behind = appending::append_byte(b' ', out, end);
-        end = kinds::put_kind(table, k, n, out, behind);
-        k += 1;
-    }
-    appending::append(b"\n", out, end)
-}
 
-// The n carets of a table, with their kinds, below a head.
-fn put_table(table: &[u16; ENTRIES], n: usize, head: &[u8], out: &mut [u8], at: usize) -> usize
-    requires { n ≤ drawn }
-    ensures { Appended (table_characters table.now n head.now) out.old at
-        out.new result }
-{
-    let e1 = appending::append(head, out, at);
-    let e2 = put_rows(table, n, out, e1);
-    put_kinds(table, n, out, e2)
+    // The kinds of the carets.
+    fn put_kinds(&self, out: &mut [u8], at: usize) -> usize
+        ensures { Appended (kinds_line (table_kinds self.now.table self.now.carets 0)) out.old at
+            out.new result }
+    {
+        if self.carets == 0 {
+            return appending::append(b"\n", out, at);
+        }
+        let mut end = self.put_kind(0, out, at);
+        for k in 1..self.carets {
+            end = appending::append_byte(b' ', out, end);
+            end = self.put_kind(k, out, end);
+        }
+        appending::append(b"\n", out, end)
+    }
+
+    // The carets with their kinds, below a head.
+    fn put_characters(&self, head: &[u8], out: &mut [u8], at: usize) -> usize
+        ensures { Appended (table_characters self.now.table self.now.carets head.now) out.old at
+            out.new result }
+    {
+        let e1 = appending::append(head, out, at);
+        let e2 = self.put_rows(out, e1);
+        self.put_kinds(out, e2)
+    }
 }
 
 // A tree with n carets below its head.
@@ -110,9 +102,7 @@ pub fn put_tree(shape: &[u8], n: usize, head: &[u8], out: &mut [u8], at: usize) 
     ensures { (t : Tree) → shape.now ≡ shape_of t → carets t ≡ n
         → Appended (tree_characters t head.now) out.old at out.new result }
 {
-    let mut table = [0u16; ENTRIES];
-    spans::read(shape, 0, 0, &mut table);
-    put_table(&table, n, head, out, at)
+    Spans::of(shape, n).put_characters(head, out, at)
 }
 
 // The numbers of the pair.

@@ -28,10 +28,7 @@ pub fn put_svg(minus: &[u8], plus: &[u8], length: usize, out: &mut [u8], at: usi
         → carets t ≡ carets s → carets t ≤ drawn
         → Appended (svg_of t s length) out.old at out.new result }
 {
-    if MAX_SHAPE < minus.len() {
-        return appending::BEYOND;
-    }
-    if MAX_SHAPE < plus.len() {
+    if MAX_SHAPE < minus.len() || MAX_SHAPE < plus.len() {
         return appending::BEYOND;
     }
     let n = minus.len() / 2;
@@ -47,10 +44,7 @@ pub fn put_characters(minus: &[u8], plus: &[u8], length: usize, out: &mut [u8], 
         → carets t ≡ carets s → carets t ≤ drawn
         → Appended (characters_of t s length) out.old at out.new result }
 {
-    if MAX_SHAPE < minus.len() {
-        return appending::BEYOND;
-    }
-    if MAX_SHAPE < plus.len() {
+    if MAX_SHAPE < minus.len() || MAX_SHAPE < plus.len() {
         return appending::BEYOND;
     }
     let n = minus.len() / 2;

@@ -10,12 +10,12 @@ fn digit(k: usize, place: usize) -> u8
     ensures { result ≡ digit_of place k }
 {
     if place <= k {
-        return 48 + ((k / place) % 10) as u8;
+        b'0' + ((k / place) % 10) as u8
+    } else if place == 1 {
+        b'0'
+    } else {
+        b' '
     }
-    if place == 1 {
-        return b'0';
-    }
-    b' '
 }
 
 // What stands in a column below the leaves.
@@ -24,9 +24,10 @@ fn cell(place: usize, c: usize) -> u8
     ensures { result ≡ digit_cell place c }
 {
     if c % 2 == 0 {
-        return digit(c / 2, place);
+        digit(c / 2, place)
+    } else {
+        b' '
     }
-    b' '
 }
 
 // The digits of the numbers 0 to n at a place.
@@ -35,10 +36,8 @@ fn put_digits(n: usize, place: usize, out: &mut [u8], at: usize) -> usize
     ensures { Appended (digit_row n place) out.old at out.new result }
 {
     let mut end = at;
-    let mut c = 0;
-    while c <= 2 * n {
+    for c in 0..2 * n + 1 {
         end = appending::append_byte(cell(place, c), out, end);
-        c += 1;
     }
     appending::append(b"\n", out, end)
 }

@@ -7,11 +7,7 @@ ghost use Rattle.pictures.specs.Texts.{sign_of, behind_sign, filled};
 fn number(numbers: &[usize], j: usize) -> u64
     ensures { result ≡ get_or numbers.now j 0 }
 {
-    if j < numbers.len() {
-        numbers[j] as u64
-    } else {
-        0
-    }
+    numbers.get(j).map_or(0, |n| *n as u64)
 }
 
 // The digits of number j for a `~`, and every other sign as it stands.
@@ -38,13 +34,10 @@ pub fn fill(text: &[u8], numbers: &[usize], out: &mut [u8], at: usize) -> usize
         out.new result }
 {
     let mut end = at;
-    let mut i = 0;
     let mut j = 0;
-    while i < text.len() {
-        let x = text[i];
+    for &x in text {
         end = put_sign(x, numbers, j, out, end);
         j = behind(j, x);
-        i += 1;
     }
     appending::append(b"", out, end)
 }

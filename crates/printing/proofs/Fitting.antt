@@ -1,28 +1,36 @@
 -- Bytes that fit and bytes that do not; the digits of a number of 64 bits fit in 20 bytes. Assumes nothing.
-use mathlib.Core.Path.{◌≡◌, refl, ap, subst}
-use mathlib.Core.List.{List}
-use Prim.Native.Nat.{ℕ, ◌+◌, ◌^◌, ◌<◌, ◌≤◌}
+use mathlib.Core.Path.{◌≡◌, sym, ap, subst}
+use mathlib.Core.List.{List, append_assoc}
+use Prim.Native.Nat.{ℕ, ◌+◌, ◌-◌, ◌^◌, ◌<◌, ◌≤◌}
 use native.Mathlib.Omega.{arith}
+use borrow.Rule.Slice.PartMut.{put_mid}
 use lib.ListN.{length}
-use lib.Seq.{length-sets}
+use lib.Seq.{sets, sets-eq, length-sets, drop-drop}
+use Rattle.std.specs.Prelude.{Option, Some}
 use Rattle.lists.specs.inside.Writes.{Wrote}
 use Rattle.numerals.specs.Decimals.{decimal}
 use Rattle.numerals.proofs.Decimals.{decimal-length}
-use Rattle.printing.specs.inside.Printing.{Put}
+use Rattle.printing.specs.inside.Printing.{Put, Placed}
 
-module _ {bytes entry : List ℕ} {at : ℕ} where
-  -- They do not fit: nothing is written.
-  pub put_none : length entry < at + length bytes → Put bytes entry at entry at
-  put_none short = record { fits = λ room. absurd (omega arith); else_kept = λ _. (refl, refl) }
+-- The bytes, in front of what stands behind them.
+pub placed_all : {bytes entry new : List ℕ} {at end : ℕ} → end ≡ at + length bytes → end ≤ length entry → new ≡ bytes
+    → Placed bytes entry at (put_mid at (end - at) entry new) (Some end)
+placed_all {bytes} {entry} {new} {at} {end} e room same = record {
+  fits = λ _. (ap Some e, holds);
+  over = λ short. absurd (omega arith);
+}
+  where
+    size : end - at ≡ length bytes
+    size = omega arith
 
-  -- They fit, and were written.
-  pub put_all : {exit : List ℕ} {end : ℕ} → at + length bytes ≤ length entry → Wrote bytes entry at exit end
-      → Put bytes entry at exit end
-  put_all room w = record { fits = λ _. w; else_kept = λ short. absurd (omega arith) }
+    holds : put_mid at (end - at) entry new ≡ sets entry at bytes
+    holds =
+        simp (same, size, drop-drop, ← append_assoc) (sym (sets-eq bytes entry at (omega arith)))
 
 -- The same bytes by another name.
-pub put_same : {a b entry exit : List ℕ} {at end : ℕ} → a ≡ b → Put a entry at exit end → Put b entry at exit end
-put_same {a} {b} {entry} {exit} {at} {end} e p = subst (λ (s : List ℕ). Put s entry at exit end) e p
+pub placed_same : {a b entry exit : List ℕ} {at : ℕ} {end : Option ℕ} → a ≡ b → Placed a entry at exit end
+    → Placed b entry at exit end
+placed_same {a} {b} {entry} {exit} {at} {end} e p = subst (λ (s : List ℕ). Placed s entry at exit end) e p
 
 -- Behind bytes that were written: there is room where both fit.
 pub put_behind : {a b s t u : List ℕ} {i j r : ℕ} → i + (length a + length b) ≤ length s → Wrote a s i t j

@@ -1,3 +1,2 @@
--- Laws of bytes put at a place of a buffer: loops that write, and whether the bytes fit.
-pub mod Loops
+-- Laws of bytes put at a place of a buffer: whether the bytes fit.
 pub mod Fitting

@@ -4,17 +4,17 @@ use Rattle.std.proofs.Common.{◌≡◌, ℕ, ◌^◌, ◌<◌, ◌≤◌, List,
 use Rattle.std.proofs.Common.{length-take}
 use native.Mathlib.Decide.{dec_lt}
 use lib.Seq.{sets}
+use Rattle.std.specs.Prelude.{Result}
+use Rattle.refusals.specs.declared.Refusal.{Refusal}
 use Rattle.lists.proofs.Writes.{sets_front}
 use Rattle.lines.specs.Lines.{last_line}
 use Rattle.refusals.specs.Outcomes.{Outcome, accepted, after, then, reply_of}
-use Rattle.refusals.specs.declared.Reply.{Reply}
 use Rattle.refusals.proofs.Outcomes.{accepted_same, accepted_refused}
 use Rattle.refusals.proofs.Placing.{fit_short, fit_long, placed_front}
 use Rattle.rows.specs.Receipts.{receipt_of, receipts_from, receipt_size}
 use Rattle.receipts.specs.Serving.{Amid, line_size, served, part_size}
 use Rattle.receipts.specs.Promises.{Finished, serving_of, answer_of, served_in, ServedPart}
 use Rattle.receipts.specs.declared.Served.{Served}
-use Rattle.receipts.specs.declared.Serving.{Serving}
 use Rattle.rows.proofs.Sizes.{receipt_length}
 use Rattle.receipts.proofs.Bounds.{served_bounds}
 
@@ -26,7 +26,7 @@ last_size k (x ∷ l) n h le =
     omega (arith, length-append (receipt_of k (x ∷ l)) [], receipt_length k (x ∷ l) h, le)
 
 -- What `finish` writes.
-pub finish_front : (k held : ℕ) (line : List ℕ) {out out' : List ℕ} {r : Reply} {n : ℕ}
+pub finish_front : (k held : ℕ) (line : List ℕ) {out out' : List ℕ} {r : Result ℕ Refusal} {n : ℕ}
     → Finished k held line out out' r → k < 2 ^ 64 → length line ≡ line_size → reply_of r ≡ accepted n
     → take n out' ≡ receipts_from k (last_line (take held line))
 finish_front k held line h few size e =
@@ -39,7 +39,7 @@ pub record FrontTaken (m : Amid) (line' out' : List ℕ) (s : Served) : Type 0 w
   pub front : take s.written out' ≡ m.receipts
 
 -- What `serve` answers and writes.
-pub serve_front : {part : List ℕ} {k held : ℕ} {line out line' out' : List ℕ} {r : Serving} {s : Served}
+pub serve_front : {part : List ℕ} {k held : ℕ} {line out line' out' : List ℕ} {r : Result Served Refusal} {s : Served}
     → ServedPart part k held line out line' out' r → k < 2 ^ 64 → length line ≡ line_size → serving_of r ≡ accepted s
     → FrontTaken (served part k line held) line' out' s
 serve_front {part} {k} {held} {line} {out} {line'} {out'} {r} {s} h few size e =

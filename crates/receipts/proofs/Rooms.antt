@@ -1,14 +1,10 @@
 -- Whether a buffer is long enough for the receipts of a part. Assumes nothing.
-use Rattle.std.proofs.Common.{◌≡◌, ℕ, ◌+◌, ◌-◌, ◌*◌, ◌/◌, ◌<◌, ◌≤◌, false, not, ltb, leb, sym, ap, ◌∙◌, arith, le-ltb}
+use Rattle.std.proofs.Common.{◌≡◌, ℕ, ◌+◌, ◌-◌, ◌*◌, ◌/◌, ◌<◌, ◌≤◌, not, ltb, leb, sym, ap, ◌∙◌, arith, le-ltb}
 use Rattle.std.proofs.Common.{lt-ltb, le-leb}
 use native.Mathlib.Decide.{dec_lt}
 use borrow.Author.Tests.{lt-leb}
 use Rattle.receipts.specs.Serving.{line_size, part_size}
 use Rattle.rows.specs.Receipts.{receipt_size}
-
--- No room for the line that has begun.
-pub enough_short : (out part : ℕ) → out < 8 * line_size → false ≡ not (ltb out (part_size part))
-enough_short out part h = sym (ap not (lt-ltb out (part_size part) (omega arith)))
 
 -- Room for it, and for as many bytes as a division gives.
 pub enough : (out part : ℕ) → 8 * line_size ≤ out

@@ -10,8 +10,8 @@ ghost use Rattle.receipts.specs.Promises.{Begun, Finished, ServedPart};
 ghost use Rattle.receipts.specs.inside.Taking.{PartTaken};
 
 use copying::copy_bytes;
-use refusals::{LIMIT, Refusal, Reply};
-use rows::{CELLS, RECORD, ROOM, SHORT_RECEIPT, TABLE};
+use refusals::{LIMIT, Refusal};
+use rows::{Room, SHORT_RECEIPT};
 
 // The bytes of a line that are kept: one more than a word has letters.
 pub const LINE: usize = LIMIT + 1;
@@ -36,180 +36,104 @@ pub struct Served {
     pub written: usize,
 }
 
-// The answer of `serve`.
-#[derive(Clone, Copy)]
-pub enum Serving {
-    Taken(Served),
-    Refused(Refusal),
-}
-
 // The header, at the front of a buffer.
-pub fn begin(out: &mut [u8]) -> Reply
+pub fn begin(out: &mut [u8]) -> Result<usize, Refusal>
     ensures { Begun out.old out.new result }
 {
     if out.len() < HEADER_SIZE {
-        return Reply::Refused(Refusal::ShortBuffer);
+        return Err(Refusal::ShortBuffer);
     }
-    Reply::Number(copy_bytes(b"line letters carets length record\n", out))
+    Ok(copy_bytes(b"line letters carets length record\n", out))
 }
 
 // Whether a buffer is long enough for the receipts of a part.
 fn is_enough(out: usize, part: usize) -> bool
     ensures { result ≡ not (nat_lt out (part_size part)) }
 {
-    if out < 8 * LINE {
-        return false;
-    }
-    part <= (out - 8 * LINE) / (SHORT_RECEIPT + 8)
+    out >= 8 * LINE && part <= (out - 8 * LINE) / (SHORT_RECEIPT + 8)
 }
 
-// The bytes of a line that are held at the front of a buffer, or all of it.
-fn held_bytes(line: &[u8], held: usize) -> &[u8]
-    ensures { result.now ≡ take held line.now }
-{
-    if held < line.len() {
-        return &line[..held];
-    }
-    line
-}
-
-// The receipt of the bytes of a line that are held, at a place of a buffer that has room for it; the line is worked out
-// in the other arrays.
+// The receipt of the bytes of a line that are held, at a place of a buffer that has room for it.
 fn put_held(
     number: u64,
     line: &[u8],
     held: usize,
     out: &mut [u8],
     at: usize,
-    b: &mut [u16; TABLE],
-    a: &mut [u16; TABLE],
-    record: &mut [u8; RECORD],
-    lefts: &mut [u16; CELLS],
-    rights: &mut [u16; CELLS],
-    stack: &mut [u16; ROOM],
+    room: &mut Room,
 ) -> usize
     requires { at + receipt_size (length (take held line.now)) ≤ length out.old }
     ensures { Wrote (receipt_of number (take held line.now)) out.old at
         out.new result }
 {
-    let reply = rows::put_receipt(
-        number,
-        held_bytes(line, held),
-        &mut out[at..],
-        b,
-        a,
-        record,
-        lefts,
-        rights,
-        stack,
-    );
-    at + refusals::count_of(reply)
+    let kept = &line[..held.min(line.len())];
+    at + rows::put_receipt(number, kept, &mut out[at..], room).unwrap()
 }
 
-// The receipts of the lines that end in a part, at the front of a buffer; the lines are worked out in the other arrays,
-// each as the one before it left them.
+// The receipts of the lines that end in a part, at the front of a buffer; each line is worked out where the one before
+// it was, as that one left it.
 fn serve_lines(
     part: &[u8],
     number: u64,
     held: usize,
     line: &mut [u8; LINE],
     out: &mut [u8],
-    b: &mut [u16; TABLE],
-    a: &mut [u16; TABLE],
-    record: &mut [u8; RECORD],
-    lefts: &mut [u16; CELLS],
-    rights: &mut [u16; CELLS],
-    stack: &mut [u16; ROOM],
+    room: &mut Room,
 ) -> Served
     requires { part_size (length part.now) ≤ length out.old }
     ensures { PartTaken (served part.now number line.old held) out.old
         line.new out.new result }
 {
     let mut at = 0;
-    let mut k = number;
-    let mut h = held;
-    let mut written = 0;
+    let mut taken = Served {
+        number,
+        held,
+        written: 0,
+    };
+    // No `for`: each call of `feed` says where the next one begins.
     while at < part.len() {
-        let fed = lines::feed(part, at, line, h);
+        let fed = lines::feed(part, at, line, taken.held);
         at = fed.next;
-        h = fed.held;
+        taken.held = fed.held;
         if fed.ended {
-            written = put_held(k, line, h, out, written, b, a, record, lefts, rights, stack);
-            k = k.wrapping_add(1);
-            h = 0;
+            taken.written = put_held(taken.number, line, taken.held, out, taken.written, room);
+            taken.number = taken.number.wrapping_add(1);
+            taken.held = 0;
         }
     }
-    Served {
-        number: k,
-        held: h,
-        written,
-    }
+    taken
 }
 
 // A part of the input, from the number of the line that has begun and the bytes of it that are held: the receipts of
-// the lines that end in the part, at the front of the buffer. The arrays in which lines are worked out are cleared once
-// for all of them: to clear them for each would take longer than a short line.
+// the lines that end in the part, at the front of the buffer. The memory in which lines are worked out is cleared once
+// for all of them: to clear it for each would take longer than a short line.
 pub fn serve(
     part: &[u8],
     number: u64,
     held: usize,
     line: &mut [u8; LINE],
     out: &mut [u8],
-) -> Serving
+) -> Result<Served, Refusal>
     ensures { ServedPart part.now number held line.old out.old
         line.new out.new result }
 {
     if !is_enough(out.len(), part.len()) {
-        return Serving::Refused(Refusal::ShortBuffer);
+        return Err(Refusal::ShortBuffer);
     }
-    let mut b = [0u16; TABLE];
-    let mut a = [0u16; TABLE];
-    let mut record = [0u8; RECORD];
-    let mut lefts = [0u16; CELLS];
-    let mut rights = [0u16; CELLS];
-    let mut stack = [0u16; ROOM];
-    Serving::Taken(serve_lines(
-        part,
-        number,
-        held,
-        line,
-        out,
-        &mut b,
-        &mut a,
-        &mut record,
-        &mut lefts,
-        &mut rights,
-        &mut stack,
-    ))
+    let mut room = Room::new();
+    Ok(serve_lines(part, number, held, line, out, &mut room))
 }
 
 // Behind the last part: the receipt of a line that has no end, at the front of the buffer.
-pub fn finish(number: u64, held: usize, line: &[u8; LINE], out: &mut [u8]) -> Reply
+pub fn finish(number: u64, held: usize, line: &[u8; LINE], out: &mut [u8]) -> Result<usize, Refusal>
     ensures { Finished number held line.now out.old out.new result }
 {
     if out.len() < LONG_RECEIPT {
-        return Reply::Refused(Refusal::ShortBuffer);
+        return Err(Refusal::ShortBuffer);
     }
     if held == 0 {
-        return Reply::Number(0);
+        return Ok(0);
     }
-    let mut b = [0u16; TABLE];
-    let mut a = [0u16; TABLE];
-    let mut record = [0u8; RECORD];
-    let mut lefts = [0u16; CELLS];
-    let mut rights = [0u16; CELLS];
-    let mut stack = [0u16; ROOM];
-    Reply::Number(put_held(
-        number,
-        line,
-        held,
-        out,
-        0,
-        &mut b,
-        &mut a,
-        &mut record,
-        &mut lefts,
-        &mut rights,
-        &mut stack,
-    ))
+    let mut room = Room::new();
+    Ok(put_held(number, line, held, out, 0, &mut room))
 }

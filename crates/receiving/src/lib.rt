@@ -3,8 +3,8 @@
 // read or the output cannot be written.
 #![tactic(auto)]
 
-use receipts::{LINE, OUTPUT, PART, Served, Serving};
-use refusals::Reply;
+use receipts::{LINE, OUTPUT, PART};
+use refusals::Refusal;
 use std::io::Read;
 
 // The numbers of standard output and standard error.
@@ -12,22 +12,22 @@ const STDOUT: i32 = 1;
 
 const STDERR: i32 = 2;
 
-// Behind a turn: whether there may be more input, whether all went well, whether a word was refused, and what is kept
-// of the line that has begun.
+// Behind a part: whether a word was refused, and what is kept of the line that has begun.
 #[derive(Clone, Copy)]
-pub struct Turn {
-    pub more: bool,
-    pub well: bool,
-    pub refused: bool,
-    pub number: u64,
-    pub held: usize,
+struct Turn {
+    refused: bool,
+    number: u64,
+    held: usize,
 }
 
-// Behind a write: whether the bytes are written, and whether a receipt among them is that of a refused word.
+// The input cannot be read or the output cannot be written, which was said, or a call gives nothing.
 #[derive(Clone, Copy)]
-pub struct Written {
-    pub well: bool,
-    pub refused: bool,
+struct Failed;
+
+impl From<Refusal> for Failed {
+    fn from(_refusal: Refusal) -> Failed {
+        Failed
+    }
 }
 
 // Says on standard error what went wrong.
@@ -36,157 +36,92 @@ fn complain(remark: &[u8]) {
 }
 
 // Whether receipts have that of a refused word: it has the letter r, and that of an accepted one has decimals, blanks
-// and hexadecimal digits alone. Every byte is looked at, so that many are looked at at once.
+// and hexadecimal digits alone. Every byte is looked at, so that many are looked at at once, as numbers.
 fn has_refused(receipts: &[u8]) -> bool {
-    let mut found = false;
-    let mut i = 0;
-    while i < receipts.len() {
-        found = found | (receipts[i] == b'r');
-        i += 1;
-    }
-    found
+    let found = receipts
+        .iter()
+        .fold(0, |found, &x| found | u8::from(x == b'r'));
+    found == 1
 }
 
-// Writes the first n bytes of the output buffer, which are receipts.
-fn write(out: &[u8], n: usize) -> Written {
-    if n > out.len() {
-        return Written {
-            well: false,
-            refused: false,
-        };
-    }
-    let refused = has_refused(&out[0..n]);
-    let well = io::write_all(STDOUT, &out[0..n]);
-    if !well {
+// Writes the first n bytes of the output buffer, which are receipts: whether one is that of a refused word.
+fn write(out: &[u8], n: usize) -> Result<bool, Failed> {
+    let receipts = out.get(..n).ok_or(Failed)?;
+    if !io::write_all(STDOUT, receipts) {
         complain(b"receipt: the output cannot be written\n");
+        return Err(Failed);
     }
-    Written { well, refused }
+    Ok(has_refused(receipts))
 }
 
-// Writes what a call put at the front of the output buffer.
-fn write_placed(out: &[u8], placed: Reply) -> Written {
-    match placed {
-        Reply::Number(n) => write(out, n),
-        Reply::Refused(_) => Written {
-            well: false,
-            refused: false,
-        },
-    }
-}
-
-// Writes the receipts of a part, behind a turn that ended as t did.
-fn write_served(out: &[u8], s: Served, t: Turn) -> Turn {
-    let written = write(out, s.written);
-    Turn {
-        more: written.well,
-        well: written.well,
-        refused: t.refused | written.refused,
-        number: s.number,
-        held: s.held,
-    }
-}
-
-// The last turn: nothing more is read.
-fn last(t: Turn, well: bool) -> Turn {
-    Turn {
-        more: false,
-        well,
-        refused: t.refused,
-        number: t.number,
-        held: t.held,
-    }
-}
-
-// One part of the input: read, served and written.
+// One part of the input: read, served and written; none at its end.
 fn take_part<R: Read>(
     input: &mut R,
     part: &mut [u8],
     line: &mut [u8; LINE],
     out: &mut [u8],
     t: Turn,
-) -> Turn {
+) -> Result<Option<Turn>, Failed> {
     let Ok(n) = input.read(part) else {
         complain(b"receipt: the input cannot be read\n");
-        return last(t, false);
+        return Err(Failed);
     };
     if n == 0 {
-        return last(t, true);
+        return Ok(None);
     }
-    let serving = receipts::serve(&part[..n], t.number, t.held, line, out);
-    match serving {
-        Serving::Taken(s) => write_served(out, s, t),
-        Serving::Refused(_) => last(t, false),
-    }
+    let served = receipts::serve(&part[..n], t.number, t.held, line, out)?;
+    let refused = write(out, served.written)?;
+    Ok(Some(Turn {
+        refused: t.refused | refused,
+        number: served.number,
+        held: served.held,
+    }))
 }
 
 // All parts of the input, from a line number on. A proved loop has to end, and nothing says that an input does: the
-// loop counts its turns down from a number that no run uses up.
+// loop counts turns, to a number that no run uses up.
 fn take_all<R: Read>(
     input: &mut R,
     from: u64,
     part: &mut [u8],
     line: &mut [u8; LINE],
     out: &mut [u8],
-) -> Turn {
+) -> Result<Turn, Failed> {
     let mut t = Turn {
-        more: true,
-        well: true,
         refused: false,
         number: from,
         held: 0,
     };
-    let mut turns = u64::MAX;
-    while turns > 0 && t.more {
-        turns -= 1;
-        t = take_part(input, part, line, out, t);
+    for _ in 0..u64::MAX {
+        match take_part(input, part, line, out, t)? {
+            Some(next) => t = next,
+            None => break,
+        }
     }
-    t
+    Ok(t)
 }
 
-// The status of what was written, or of what could not be.
-fn status(well: bool, refused: bool) -> u8 {
-    if !well {
-        return 2;
-    }
-    if refused {
-        return 1;
-    }
-    0
-}
-
-// The header; answers whether it is written.
-fn write_header(out: &mut [u8]) -> bool {
-    let begun = receipts::begin(out);
-    let written = write_placed(out, begun);
-    written.well
-}
-
-// The receipts of all parts, numbered from a number on, then that of a line that has no end.
-fn receive<R: Read>(
-    input: &mut R,
-    from: u64,
-    part: &mut [u8; PART],
-    line: &mut [u8; LINE],
-    out: &mut [u8; OUTPUT],
-) -> u8 {
-    let end = take_all(input, from, part, line, out);
-    if !end.well {
-        return 2;
-    }
-    let finished = receipts::finish(end.number, end.held, line, out);
-    let written = write_placed(out, finished);
-    status(written.well, end.refused | written.refused)
-}
-
-// The receipts of an input, numbered from a number on, with the header in front where that number is 1.
-pub fn run<R: Read>(input: &mut R, from: u64) -> u8 {
+// The receipts of all parts, numbered from a number on, then that of a line that has no end, with the header in front
+// where that number is 1: whether a word was refused.
+fn receive<R: Read>(input: &mut R, from: u64) -> Result<bool, Failed> {
     let mut part = [0u8; PART];
     let mut line = [0u8; LINE];
     let mut out = [0u8; OUTPUT];
-    if from == 1 && !write_header(&mut out) {
-        return 2;
+    if from == 1 {
+        let n = receipts::begin(&mut out)?;
+        write(&out, n)?;
     }
-    receive(input, from, &mut part, &mut line, &mut out)
+    let end = take_all(input, from, &mut part, &mut line, &mut out)?;
+    let n = receipts::finish(end.number, end.held, &line, &mut out)?;
+    Ok(write(&out, n)? | end.refused)
+}
+
+// The receipts of an input: their status.
+pub fn run<R: Read>(input: &mut R, from: u64) -> u8 {
+    match receive(input, from) {
+        Ok(refused) => u8::from(refused),
+        Err(_) => 2,
+    }
 }
 
 // The receipt program: its status.

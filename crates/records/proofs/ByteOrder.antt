@@ -7,8 +7,12 @@ use Prim.Native.Nat.{ℕ, ◌/◌, ◌%◌, ◌<◌}
 use native.Mathlib.Decide.{dec_lt}
 use native.Mathlib.Omega.{arith}
 use lib.ListN.{length}
-use lib.Dec.{ltb}
-use borrow.Author.Tests.{lt-ltb, le-ltb, ltb-true, ltb-false}
+use lib.Dec.{eqb, ltb}
+use borrow.Author.Tests.{lt-ltb, le-ltb, ltb-true, ltb-false, eqb-true, eqb-false}
+use Rattle.std.specs.Prelude.{Some}
+use Rattle.std.specs.Ordering.{partial_lt, nat_cmp, is_some_and, is_lt, partial_ordering_then}
+use Rattle.std.specs.declared.cmp.Ordering.TheVariants.{Less, Equal, Greater}
+use Rattle.std.specs.Cmp.Lexicographic.{slice_partial_cmp}
 use Rattle.fields.specs.Fields.{field}
 use Rattle.records.specs.Format.{a_tag}
 use Rattle.records.specs.Exchange.{bytes_below}
@@ -20,13 +24,28 @@ module _ (x y : ℕ) (s t : List ℕ) where
   unfolding bytes_below
   below_less h = simp (lt-ltb x y h)
 
-  pub below_more : y < x → bytes_below (x ∷ s) (y ∷ t) ≡ false
-  unfolding bytes_below
-  below_more h = simp (le-ltb x y (omega (arith, h)), lt-ltb y x h)
-
   pub below_equal : x ≡ y → bytes_below (x ∷ s) (y ∷ t) ≡ bytes_below s t
   unfolding bytes_below
   below_equal h = simp (le-ltb x y (omega (arith, h)), le-ltb y x (omega (arith, h)))
+
+-- The library's comparison of slices of bytes.
+pub slice_below : (s t : List ℕ) → partial_lt (slice_partial_cmp (λ x y. Some (nat_cmp x y))) s t ≡ bytes_below s t
+unfolding bytes_below
+slice_below [] [] = refl
+slice_below [] (y ∷ t) = refl
+slice_below (x ∷ s) [] = refl
+slice_below (x ∷ s) (y ∷ t) = go (ltb x y) (eqb x y) (ltb y x) refl refl refl (slice_below s t)
+  where
+    go : (p q r : Bool) → ltb x y ≡ p → eqb x y ≡ q → ltb y x ≡ r
+        → partial_lt (slice_partial_cmp (λ i j. Some (nat_cmp i j))) s t ≡ bytes_below s t
+        → is_some_and is_lt (partial_ordering_then (Some (cond p Less (cond q Equal Greater)))
+        (slice_partial_cmp (λ i j. Some (nat_cmp i j)) s t))
+        ≡ cond p true (cond r false (bytes_below s t))
+    go true q r a b c h = refl
+    go false true true a b c h = absurd (omega (arith, eqb-true x y b, ltb-true y x c))
+    go false true false a b c h = h
+    go false false true a b c h = refl
+    go false false false a b c h = absurd (eqb-false x y b (omega (arith, ltb-false x y a, ltb-false y x c)))
 
 -- Of two lists at most one comes before the other, and where neither does they are the same.
 pub below_not : (s t : List ℕ) → bytes_below s t ≡ true → bytes_below t s ≡ false

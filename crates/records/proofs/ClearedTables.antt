@@ -7,6 +7,7 @@ use native.Mathlib.Omega.{arith}
 use native.Mathlib.Decide.{dec_lt}
 use lib.ListN.{length, get_or, replicate, length-replicate}
 use borrow.Author.Tests.{le-ltb}
+use Rattle.std.specs.Prelude.{⊤, Result, Ok, Err}
 use Rattle.lists.specs.Tables.{filled}
 use Rattle.lists.proofs.Tables.{filled-length, filled_at, filled-beyond}
 use Rattle.lists.proofs.Totals.{same_replicate}
@@ -15,10 +16,7 @@ use Rattle.group.specs.Limits.{limit}
 use Rattle.group.proofs.Reduced.{Canonical}
 use Rattle.group.proofs.Sizes.{trimmed_levels}
 use Rattle.refusals.specs.Outcomes.{Outcome, accepted, refused, then, drop_value, refusal, verdict_of}
-use Rattle.refusals.specs.inside.Verdicts.{refusal_in}
 use Rattle.refusals.specs.declared.Refusal.{Refusal}
-use Rattle.refusals.specs.declared.Verdict.{Verdict}
-use Rattle.refusals.specs.declared.Verdict.TheVariants.{Accepted, Refused}
 use Rattle.refusals.proofs.Outcomes.{drop_accepted, drop_refused}
 use Rattle.records.specs.Format.{Within}
 use Rattle.records.specs.Reading.{decode}
@@ -89,7 +87,7 @@ pub record Read (s z b a : List ℕ) (f : Form) : Type 0 where
   pub a_holds : a ≡ table_of a_side f z
 
 -- What the reader left, from cleared tables.
-module _ {n : ℕ} {s z b a : List ℕ} {v : Verdict} (c : Cleared n z) (d : Decoded s z z b a v) where
+module _ {n : ℕ} {s z b a : List ℕ} {v : Result ⊤ Refusal} (c : Cleared n z) (d : Decoded s z z b a v) where
   whole : then (decode s) (fits (length z) (length z)) ≡ decode s
   whole = reader_room s (length z) (omega (arith, c.size, c.room))
 
@@ -97,13 +95,11 @@ module _ {n : ℕ} {s z b a : List ℕ} {v : Verdict} (c : Cleared n z) (d : Dec
   judged = d.reads.result ∙ ap drop_value whole
 
   -- It refused.
-  pub read_refused : {q : Refusal} → v ≡ Refused q → decode s ≡ refusal (refusal_in v)
-  read_refused {q} e =
-      drop_refused (decode s) (sym (ap (λ (x : Verdict). verdict_of x) e) ∙ judged)
-      ∙ sym (ap (λ (x : Verdict). refusal (refusal_in x)) e)
+  pub read_refused : {q : Refusal} → v ≡ Err q → decode s ≡ refusal q
+  read_refused e = drop_refused (decode s) (sym (ap (λ (x : Result ⊤ Refusal). verdict_of x) e) ∙ judged)
 
   -- It accepted.
-  pub read_accepted : v ≡ Accepted → (f : Form) × Read s z b a f
+  pub read_accepted : v ≡ (Ok tt) → (f : Form) × Read s z b a f
   read_accepted e =
       let x = drop_accepted (decode s) (sym (ap verdict_of e) ∙ judged) in
       let both = decode_form s x.0 x.1 in (

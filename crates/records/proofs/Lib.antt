@@ -39,7 +39,6 @@ pub mod Decodings
 pub mod ClearedTables
 -- byte order; the record with its sides exchanged
 pub mod ByteOrder
-pub mod BelowTurns
 pub mod Exchanges
 pub mod Sides
 pub mod SmallerRecords

@@ -98,3 +98,10 @@ module _ {s : List ℕ} {start count : ℕ} {t₀ t : List ℕ} {at left : ℕ} 
   placing_done le =
       let none : left ≡ 0 = omega arith in
       sym (ap (λ (k : ℕ). place_powers_value (entries_at s at k) t) none) ∙ h.goes_on
+
+-- The same by other names of the offset and of what is left.
+pub placing_same : {s : List ℕ} {start count : ℕ} {t₀ t : List ℕ} {at left at' left' : ℕ} → at ≡ at' → left ≡ left'
+    → PlacingLoop s start count t₀ t at left → PlacingLoop s start count t₀ t at' left'
+placing_same {s} {start} {count} {t₀} {t} {at} {left} {at'} {left'} e f h =
+    subst (λ (k : ℕ). PlacingLoop s start count t₀ t at' k) f
+    (subst (λ (k : ℕ). PlacingLoop s start count t₀ t k left) e h)

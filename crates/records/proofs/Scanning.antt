@@ -1,5 +1,5 @@
 -- The loop over the entries of a field: what is left to scan gives what the whole gives. Assumes nothing.
-use mathlib.Core.Path.{◌≡◌, sym, ap, ap₂, ◌∙◌}
+use mathlib.Core.Path.{◌≡◌, sym, ap, ap₂, subst, ◌∙◌}
 use mathlib.Core.Bool.{Bool, true, false, cond}
 use mathlib.Core.List.{List}
 use Prim.Native.Nat.{ℕ, suc, ◌+◌, ◌-◌, ◌*◌, ◌<◌, ◌≤◌}
@@ -7,7 +7,7 @@ use native.Mathlib.Numerals.{add-one}
 use native.Mathlib.Omega.{arith}
 use lib.ListN.{length}
 use Rattle.group.specs.Limits.{limit}
-use Rattle.refusals.specs.Outcomes.{Outcome, accepted, refused}
+use Rattle.refusals.specs.Outcomes.{Outcome, refused}
 use Rattle.records.specs.Reading.{entries_at, is_faulty, scan}
 use Rattle.fields.specs.Fields.{two_at}
 use Rattle.records.proofs.WrittenEntries.{entries_next}
@@ -48,7 +48,9 @@ module _ {s : List ℕ} {start sum count at low total left : ℕ} (h : Scanning 
         ∙ next i e p q lt;
   }
 
-  pub scanning_done : left ≤ 0 → accepted total ≡ scan start 0 sum (entries_at s start count)
-  scanning_done le =
-      let none : left ≡ 0 = omega arith in
-      sym (ap (λ (k : ℕ). scan at low total (entries_at s at k)) none) ∙ h.goes_on
+-- The same by other names of the offset and of what is left.
+pub scanning_same : {s : List ℕ} {start sum count at low total left at' left' : ℕ} → at ≡ at' → left ≡ left'
+    → Scanning s start sum count at low total left → Scanning s start sum count at' low total left'
+scanning_same {s} {start} {sum} {count} {at} {low} {total} {left} {at'} {left'} e f h =
+    subst (λ (k : ℕ). Scanning s start sum count at' low total k) f
+    (subst (λ (k : ℕ). Scanning s start sum count k low total left) e h)

@@ -1,6 +1,6 @@
 -- The smaller of a record and its exchange, written at the front of a buffer: it has as many bytes as the record, and
 -- those that are counted lie inside the buffer. Assumes nothing.
-use mathlib.Core.Path.{◌≡◌, refl, ap, ◌∙◌, subst}
+use mathlib.Core.Path.{◌≡◌, refl, sym, ap, ◌∙◌, subst}
 use mathlib.Core.Bool.{Bool, true, false, cond}
 use mathlib.Core.List.{List}
 use Prim.Native.Nat.{ℕ, ◌-◌, ◌≤◌}
@@ -8,16 +8,17 @@ use native.Mathlib.Decide.{dec_le}
 use native.Mathlib.Omega.{arith}
 use lib.ListN.{length, take, drop, length-append, length-drop}
 use lib.Seq.{length-sets, length-take-le}
+use Rattle.std.specs.Prelude.{Result, Ok, Err}
+use Rattle.std.specs.Result.{IsOk}
+use Rattle.refusals.specs.declared.Refusal.{Refusal}
 use Rattle.lists.specs.inside.Writes.{Wrote}
 use Rattle.lists.proofs.Writes.{sets_front}
 use Rattle.group.specs.Forms.{Form}
-use Rattle.refusals.specs.declared.Reply.{Reply}
-use Rattle.refusals.specs.declared.Reply.TheVariants.{Number, Refused}
 use Rattle.refusals.specs.Outcomes.{Outcome, refused, valued, reply_of}
-use Rattle.refusals.specs.inside.Verdicts.{count_in}
+use Rattle.refusals.proofs.Answered.{count_in}
 use Rattle.refusals.specs.Placing.{fitting, Placed}
 use Rattle.refusals.proofs.Outcomes.{accepted_refused}
-use Rattle.refusals.proofs.Placing.{fit_short, placed_wrote}
+use Rattle.refusals.proofs.Placing.{fit_short, fit_long, placed_wrote}
 use Rattle.fields.specs.Fields.{field, head_size}
 use Rattle.records.specs.Format.{b_tag, a_tag, encode}
 use Rattle.records.specs.Reading.{b_length, a_start, a_length, frames}
@@ -51,7 +52,7 @@ smaller_long s e = go (is_above s)
     go true = exchanged_long s (frames→frame s e)
     go false = refl
 
-module _ (s out : List ℕ) {out' : List ℕ} (r : Reply) (h : Placed (smaller_in s out) out out' r) where
+module _ (s out : List ℕ) {out' : List ℕ} (r : Result ℕ Refusal) (h : Placed (smaller_in s out) out out' r) where
   -- Bytes that are framed, and a buffer that has room for them: the smaller is written.
   pub smaller_wrote : frames s ≡ true → length s ≤ length out → Wrote (smaller_record s) out 0 out' (count_in r)
   smaller_wrote e room = placed_wrote r (subst (λ (o : Outcome (List ℕ)). Placed o out out' r) framed h) room
@@ -59,13 +60,28 @@ module _ (s out : List ℕ) {out' : List ℕ} (r : Reply) (h : Placed (smaller_i
       framed : smaller_in s out ≡ fitting (length s) (smaller_record s) out
       framed = ap (λ (b : Bool). cond b (fitting (length s) (smaller_record s) out) (refused 3 0)) e
 
+  -- And no refusal is answered.
+  pub smaller_answered : frames s ≡ true → length s ≤ length out → (x : Refusal) → r ≡ Err x → ⊥
+  smaller_answered e room x is =
+      accepted_refused
+      (sym (sym (ap reply_of is) ∙ h.result
+      ∙ ap (λ (b : Bool). valued length (cond b (fitting (length s) (smaller_record s) out) (refused 3 0))) e
+      ∙ ap (valued length) (fit_long (length s) (smaller_record s) out room)))
+
+  pub smaller_is_ok : frames s ≡ true → length s ≤ length out → IsOk r
+  smaller_is_ok e room = go r refl
+    where
+      go : (q : Result ℕ Refusal) → r ≡ q → IsOk q
+      go (Ok n) is = refl
+      go (Err x) is = absurd (smaller_answered e room x is)
+
   -- A refusal counts nothing.
   none : (n p : ℕ) → smaller_in s out ≡ refused n p → count_in r ≡ 0
   none n p e = go r (h.result ∙ ap (valued length) e)
     where
-      go : (q : Reply) → reply_of q ≡ refused n p → count_in q ≡ 0
-      go (Number k) a = absurd (accepted_refused a)
-      go (Refused x) a = refl
+      go : (q : Result ℕ Refusal) → reply_of q ≡ refused n p → count_in q ≡ 0
+      go (Ok k) a = absurd (accepted_refused a)
+      go (Err x) a = refl
 
   -- Whatever the bytes are, those that are counted lie inside the buffer.
   pub smaller-inside : count_in r ≤ length out'

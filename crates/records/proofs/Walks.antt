@@ -252,18 +252,3 @@ module _ {s : List ℕ} {b a p q : Place} (w : Walking s b a p q) (lp : 0 < p.le
     pub walk_stops : Walkable s b a → x ≡ true
         → refused 5 i ≡ drop_value (find_break (form_of_powers (left_at s b) (left_at s a)) 0 (suc limit))
     walk_stops walkable h = walk_breaks walkable (tested ∙ h)
-
--- The test of the clause, one condition after another.
-module _ (s : List ℕ) (p q : Place) (i j : ℕ) where
-  pub breaks_other : (i ≡ j → ⊥) → false ≡ breaks_at s p q i j
-  breaks_other n = sym (rw (ne_eqb i j n) refl)
-
-  module _ (same : i ≡ j) {x : Bool} (e : x ≡ starts_at s p (i + 1)) where
-    by_q : breaks_at s p q i j ≡ cond x false (not (starts_at s q (i + 1)))
-    by_q = rw (eq-eqb i j same) (ap (λ (t : Bool). cond t false (not (starts_at s q (i + 1)))) (sym e))
-
-    pub breaks_p : x ≡ true → false ≡ breaks_at s p q i j
-    breaks_p h = sym (by_q ∙ ap (λ (t : Bool). cond t false (not (starts_at s q (i + 1)))) h)
-
-    pub breaks_q : x ≡ false → {y : Bool} → y ≡ starts_at s q (i + 1) → not y ≡ breaks_at s p q i j
-    breaks_q h f = sym (by_q ∙ ap (λ (t : Bool). cond t false (not (starts_at s q (i + 1)))) h ∙ ap not (sym f))

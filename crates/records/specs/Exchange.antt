@@ -5,14 +5,14 @@
 --     smaller_form f     the form with the smaller record     SmallnessRead     the contract of `is_smaller`
 -- Assumes nothing.
 use Rattle.std.specs.Prelude.{◌≡◌, Bool, true, false, cond, not, List, [], ◌∷◌, ◌++◌, ℕ, take, drop, ltb}
+use Rattle.std.specs.Prelude.{Result, Ok, Err}
+use Rattle.refusals.specs.declared.Refusal.{Refusal}
 use Rattle.group.specs.Forms.{Form}
 use Rattle.group.specs.Products.{exchange}
 use Rattle.refusals.specs.Outcomes.{Outcome, accepted, then, refusal}
 use Rattle.fields.specs.Fields.{Bytes, field, head_size}
 use Rattle.records.specs.Format.{b_tag, a_tag, encode}
 use Rattle.records.specs.Reading.{b_length, a_start, a_length, decode}
-use Rattle.records.specs.declared.Smallness.{Smallness}
-use Rattle.records.specs.declared.Smallness.TheVariants.{Smaller, Refused}
 
 -- Byte order: the first byte that differs decides; a list that ends sooner comes first.
 unfoldable pub bytes_below : List ℕ → List ℕ → Bool
@@ -45,11 +45,11 @@ abbrev pub smaller_form : Form → Form
 smaller_form f = cond (is_above (encode f)) (exchange f) f
 
 -- The outcome of `is_smaller`.
-abbrev pub smallness_of : Smallness → Outcome Bool
-smallness_of (Smaller b) = accepted b
-smallness_of (Refused r) = refusal r
+abbrev pub smallness_of : Result Bool Refusal → Outcome Bool
+smallness_of (Ok b) = accepted b
+smallness_of (Err r) = refusal r
 
 -- Whether a record is not above its exchange, or refused as the record is. What is lent are bytes.
-pub record SmallnessRead (s : List ℕ) (r : Smallness) : Type 0 where
+pub record SmallnessRead (s : List ℕ) (r : Result Bool Refusal) : Type 0 where
   pub are_bytes : Bytes s
   pub result : smallness_of r ≡ then (decode s) (λ f. accepted (not (is_above s)))

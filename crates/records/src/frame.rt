@@ -1,37 +1,54 @@
-// The two fields of a record.
-ghost use Rattle.std.specs.Prelude.{◌≡◌};
-ghost use Rattle.records.specs.inside.Steps.{frame_of};
+// The two fields of a record, and their bodies.
+ghost use Rattle.std.specs.Prelude.{◌≡◌, false, MatchOption};
+ghost use Rattle.fields.specs.Fields.{Bytes as AreBytes};
+ghost use Rattle.records.specs.Exchange.{b_body, a_body};
+ghost use Rattle.records.specs.Reading.{frames};
+ghost use Rattle.records.specs.inside.Steps.{FramedBy};
 
 use crate::{A_TAG, B_TAG, BASE_SIZE};
-use fields::{Field, HEAD_SIZE};
+use fields::HEAD_SIZE;
 
-// The lengths of the two bodies, or fields that do not frame the record.
+// Bytes that two fields frame, with the lengths of the two bodies.
 #[derive(Clone, Copy)]
-pub enum Frame {
-    Exact(usize, usize),
-    Broken,
+pub struct Frame<'a> {
+    pub bytes: &'a [u8],
+    pub b_length: usize,
+    pub a_length: usize,
+    ghost are_bytes: { AreBytes bytes.now },
+    ghost framed: { FramedBy bytes.now b_length a_length },
 }
 
-// The two fields: present, in order, ending where the bytes end, with whole entries.
-pub fn read_frame(record: &[u8]) -> Frame
-    ensures { result ≡ frame_of «record».now }
-{
-    let first = fields::read_field(record, 0, B_TAG);
-    let Field::Body(b_length) = first else {
-        return Frame::Broken;
-    };
-    let second = fields::read_field(record, HEAD_SIZE + b_length, A_TAG);
-    let Field::Body(a_length) = second else {
-        return Frame::Broken;
-    };
-    if record.len() != BASE_SIZE + b_length + a_length {
-        return Frame::Broken;
+impl<'a> Frame<'a> {
+    // The two fields: present, in order, ending where the bytes end, with whole entries.
+    pub fn read(bytes: &'a [u8]) -> Option<Frame<'a>>
+        ensures { MatchOption result (frames bytes.now ≡ false) (λ f. f.bytes.now ≡ bytes.now) }
+    {
+        let b_length = fields::read_field(bytes, 0, B_TAG)?;
+        let a_length = fields::read_field(bytes, HEAD_SIZE + b_length, A_TAG)?;
+        if bytes.len() != BASE_SIZE + b_length + a_length
+            || b_length % 4 != 0
+            || a_length % 4 != 0
+        {
+            return None;
+        }
+        Some(Frame {
+            bytes,
+            b_length,
+            a_length,
+        })
     }
-    if b_length % 4 != 0 {
-        return Frame::Broken;
+
+    // The body of the b side.
+    pub fn b_body(self) -> &'a [u8]
+        ensures { result.now ≡ b_body self.entry.bytes.now }
+    {
+        &self.bytes[HEAD_SIZE..HEAD_SIZE + self.b_length]
     }
-    if a_length % 4 != 0 {
-        return Frame::Broken;
+
+    // The body of the a side.
+    pub fn a_body(self) -> &'a [u8]
+        ensures { result.now ≡ a_body self.entry.bytes.now }
+    {
+        &self.bytes[BASE_SIZE + self.b_length..]
     }
-    Frame::Exact(b_length, a_length)
 }

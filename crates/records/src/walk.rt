@@ -7,7 +7,7 @@ ghost use Rattle.clause.specs.Clause.{find_break};
 ghost use Rattle.records.specs.inside.Walking.{left_at, passed_by, starts_at, breaks_at, Inside, Walkable};
 
 use fields::integers::number_at;
-use refusals::{GeneratorIndex, Refusal, Verdict};
+use refusals::{GeneratorIndex, Refusal};
 
 // An entry of a field, by its offset, and how many entries are left from it on.
 #[derive(Clone, Copy)]
@@ -16,29 +16,28 @@ pub struct Place {
     pub left: usize,
 }
 
-// The next entry, where the index is not above that of the other side; else the same.
-fn pass(p: Place, index: usize, other: usize) -> Place
-    requires { (0 < p.left) × (p.at + 4 < 2 ^ 64) }
-    ensures { result ≡ passed_by p index other }
-{
-    if other < index {
-        return p;
+impl Place {
+    // The next entry, where the index is not above that of the other side; else the same.
+    fn passed(self, index: usize, other: usize) -> Place
+        requires { (0 < self.left) × (self.at + 4 < 2 ^ 64) }
+        ensures { result ≡ passed_by self index other }
+    {
+        if other < index {
+            return self;
+        }
+        Place {
+            at: self.at + 4,
+            left: self.left - 1,
+        }
     }
-    Place {
-        at: p.at + 4,
-        left: p.left - 1,
-    }
-}
 
-// Whether there is an entry at a place, with an index.
-fn starts(s: &[u8], p: Place, index: usize) -> bool
-    requires { Inside s.now p }
-    ensures { result ≡ starts_at s.now p index }
-{
-    if p.left == 0 {
-        return false;
+    // Whether there is an entry at a place, with an index.
+    fn starts(self, s: &[u8], index: usize) -> bool
+        requires { Inside s.now self }
+        ensures { result ≡ starts_at s.now self index }
+    {
+        self.left != 0 && number_at(s, self.at) == index
     }
-    number_at(s, p.at) == index
 }
 
 // Whether an index breaks the clause, by the entries behind it: both sides have it, and neither has the next.
@@ -46,17 +45,11 @@ fn broken(s: &[u8], p: Place, q: Place, index: usize, other: usize) -> bool
     requires { Inside s.now p × Inside s.now q × (index < 65536) }
     ensures { result ≡ breaks_at s.now p q index other }
 {
-    if index != other {
-        return false;
-    }
-    if starts(s, p, index + 1) {
-        return false;
-    }
-    !starts(s, q, index + 1)
+    index == other && !p.starts(s, index + 1) && !q.starts(s, index + 1)
 }
 
 // The smallest index that breaks the clause, if any, of the entries from two places on.
-pub fn walk(s: &[u8], b: Place, a: Place) -> Verdict
+pub fn walk(s: &[u8], b: Place, a: Place) -> Result<(), Refusal>
     requires { Walkable s.now b a }
     ensures { verdict_of result ≡ drop_value (find_break (form_of_powers (left_at s.now b)
         (left_at s.now a)) 0 (suc limit)) }
@@ -66,13 +59,13 @@ pub fn walk(s: &[u8], b: Place, a: Place) -> Verdict
     while 0 < p.left && 0 < q.left {
         let i = number_at(s, p.at);
         let j = number_at(s, q.at);
-        let next_p = pass(p, i, j);
-        let next_q = pass(q, j, i);
+        let next_p = p.passed(i, j);
+        let next_q = q.passed(j, i);
         if broken(s, next_p, next_q, i, j) {
-            return Verdict::Refused(Refusal::NotReduced(GeneratorIndex(i as u16)));
+            return Err(Refusal::NotReduced(GeneratorIndex(i as u16)));
         }
         p = next_p;
         q = next_q;
     }
-    Verdict::Accepted
+    Ok(())
 }

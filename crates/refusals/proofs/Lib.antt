@@ -1,4 +1,4 @@
--- Laws of outcomes, of the number that a reply counts, and of calls that write at the front of a buffer.
+-- Laws of outcomes, of what an answer holds, and of calls that write at the front of a buffer.
 pub mod Outcomes
-pub mod Counts
+pub mod Answered
 pub mod Placing

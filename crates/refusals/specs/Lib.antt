@@ -3,5 +3,3 @@ pub mod Refusals
 pub mod Outcomes
 pub mod Memory
 pub mod Placing
--- what no claim reaches
-pub mod inside

@@ -3,12 +3,8 @@
 --     after o old new   what was lent, at exit      valued value o   the outcome with the call's number for its value
 --     verdict_of, reply_of   the outcomes of the two answer types: nothing or a refusal, a number or a refusal
 -- Assumes nothing.
-use Rattle.std.specs.Prelude.{ℕ}
+use Rattle.std.specs.Prelude.{ℕ, ⊤, Result, Ok, Err}
 use Rattle.refusals.specs.declared.Refusal.{Refusal}
-use Rattle.refusals.specs.declared.Verdict.{Verdict}
-use Rattle.refusals.specs.declared.Verdict.TheVariants.{Accepted, Refused}
-use Rattle.refusals.specs.declared.Reply.{Reply}
-use Rattle.refusals.specs.declared.Reply.TheVariants.{Number, Refused as NoNumber}
 use Rattle.refusals.specs.Refusals.{number_of, place_of}
 
 -- Accepted, with what was found, or refused, with the paper's number and place.
@@ -35,14 +31,14 @@ abbrev pub refusal : {A : Type 0} → Refusal → Outcome A
 refusal r = refused (number_of r) (place_of r)
 
 -- A verdict has no value.
-abbrev pub verdict_of : Verdict → Outcome ℕ
-verdict_of Accepted = accepted 0
-verdict_of (Refused r) = refusal r
+abbrev pub verdict_of : Result ⊤ Refusal → Outcome ℕ
+verdict_of (Ok tt) = accepted 0
+verdict_of (Err r) = refusal r
 
 -- The value is the number: of bytes written, of letters, of carets.
-abbrev pub reply_of : Reply → Outcome ℕ
-reply_of (Number n) = accepted n
-reply_of (NoNumber r) = refusal r
+abbrev pub reply_of : Result ℕ Refusal → Outcome ℕ
+reply_of (Ok n) = accepted n
+reply_of (Err r) = refusal r
 
 -- A further judgement of what was found; a refusal stands.
 abbrev pub then : {A B : Type 0} → Outcome A → (A → Outcome B) → Outcome B

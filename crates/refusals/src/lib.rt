@@ -4,7 +4,7 @@
 ghost use Rattle.std.specs.Prelude.{◌≡◌};
 ghost use Rattle.group.specs.Limits.{limit as theLimit};
 ghost use Rattle.refusals.specs.Refusals.{number_of, place_of};
-ghost use Rattle.refusals.specs.inside.Verdicts.{refusal_in, count_in};
+ghost use Rattle.refusals.specs.declared.Failure.TheVariants.{Refused};
 
 // The most letters of a word; also the highest index and the highest sum of exponents of a record.
 pub const LIMIT: usize = 4096;
@@ -60,18 +60,19 @@ pub enum Refusal {
     NotTree,
 }
 
-// Accepted or refused: the answer of calls that write nothing.
+// Why a call that is lent tables or scratch of any size gives nothing: a refusal, or what was lent doesn't serve.
 #[derive(Clone, Copy)]
-pub enum Verdict {
-    Accepted,
+pub enum Failure {
     Refused(Refusal),
+    Unfit,
 }
 
-// A number, as of bytes written, of letters or of carets, or a refusal: the answer of all other calls.
-#[derive(Clone, Copy)]
-pub enum Reply {
-    Number(usize),
-    Refused(Refusal),
+impl From<Refusal> for Failure {
+    ghost from_gives = { λ r f. f ≡ Refused r };
+
+    fn from(r: Refusal) -> Failure {
+        Failure::Refused(r)
+    }
 }
 
 // The constant is the limit of the definitions.
@@ -81,68 +82,41 @@ pub fn limit() -> usize
     LIMIT
 }
 
-// The number of a refusal.
-pub fn number(r: Refusal) -> u8
-    ensures { result ≡ number_of r }
-{
-    match r {
-        Refusal::TooManyLetters => 1,
-        Refusal::NotLetter(_) => 2,
-        Refusal::BadFrame => 3,
-        Refusal::BadEntry(_) => 4,
-        Refusal::NotReduced(_) => 5,
-        Refusal::ShortTable => 6,
-        Refusal::ShortBuffer => 7,
-        Refusal::LongSpelling => 8,
-        Refusal::Misspelled(_) => 9,
-        Refusal::LargeExponents => 10,
-        Refusal::HighIndex => 11,
-        Refusal::BadRegister => 12,
-        Refusal::HolderFull => 13,
-        Refusal::RegisterFull => 14,
-        Refusal::NotTree => 15,
+impl Refusal {
+    // The number of a refusal.
+    pub fn number(self) -> u8
+        ensures { result ≡ number_of self }
+    {
+        match self {
+            Refusal::TooManyLetters => 1,
+            Refusal::NotLetter(_) => 2,
+            Refusal::BadFrame => 3,
+            Refusal::BadEntry(_) => 4,
+            Refusal::NotReduced(_) => 5,
+            Refusal::ShortTable => 6,
+            Refusal::ShortBuffer => 7,
+            Refusal::LongSpelling => 8,
+            Refusal::Misspelled(_) => 9,
+            Refusal::LargeExponents => 10,
+            Refusal::HighIndex => 11,
+            Refusal::BadRegister => 12,
+            Refusal::HolderFull => 13,
+            Refusal::RegisterFull => 14,
+            Refusal::NotTree => 15,
+        }
     }
-}
 
-// The place of a refusal; 0 where none is named.
-pub fn place(r: Refusal) -> usize
-    ensures { result ≡ place_of r }
-{
-    match r {
-        Refusal::TooManyLetters => LIMIT,
-        Refusal::NotLetter(offset) => offset,
-        Refusal::BadFrame => 0,
-        Refusal::BadEntry(offset) => offset,
-        Refusal::NotReduced(index) => index.0 as usize,
-        Refusal::ShortTable => 0,
-        Refusal::ShortBuffer => 0,
-        Refusal::LongSpelling => 0,
-        Refusal::Misspelled(offset) => offset,
-        Refusal::LargeExponents => 0,
-        Refusal::HighIndex => 0,
-        Refusal::BadRegister => 0,
-        Refusal::HolderFull => 0,
-        Refusal::RegisterFull => 0,
-        Refusal::NotTree => 0,
-    }
-}
-
-// The refusal of a verdict. An accepted one has none, and `BadFrame` stands for it; no caller asks it there.
-pub fn refusal_of(verdict: Verdict) -> Refusal
-    ensures { result ≡ refusal_in verdict }
-{
-    match verdict {
-        Verdict::Accepted => Refusal::BadFrame,
-        Verdict::Refused(r) => r,
-    }
-}
-
-// The number of a reply. A refusal has none, and 0 stands for it; no caller asks it there.
-pub fn count_of(reply: Reply) -> usize
-    ensures { result ≡ count_in reply }
-{
-    match reply {
-        Reply::Number(n) => n,
-        Reply::Refused(_) => 0,
+    // The place of a refusal; 0 where none is named.
+    pub fn place(self) -> usize
+        ensures { result ≡ place_of self }
+    {
+        match self {
+            Refusal::TooManyLetters => LIMIT,
+            Refusal::NotLetter(offset) => offset,
+            Refusal::BadEntry(offset) => offset,
+            Refusal::NotReduced(index) => index.0 as usize,
+            Refusal::Misspelled(offset) => offset,
+            _ => 0,
+        }
     }
 }

@@ -18,30 +18,26 @@ fn put_last(word: &[u8], n: u64, out: &mut [u8; OUTPUT], at: usize) -> usize {
 // The number and the place of a refusal.
 fn put_refusal(r: Refusal, out: &mut [u8; OUTPUT], at: usize) -> usize {
     let named = printing::put(b" refused ", out, at);
-    let numbered = printing::put_decimal(refusals::number(r) as u64, out, named);
-    put_last(b" ", refusals::place(r) as u64, out, numbered)
+    let numbered = printing::put_decimal(r.number() as u64, out, named);
+    put_last(b" ", r.place() as u64, out, numbered)
 }
 
 // What became of a word.
-fn put_entered(entered: Entered, out: &mut [u8; OUTPUT], at: usize) -> usize {
+fn put_entered(entered: Result<Entered, Refusal>, out: &mut [u8; OUTPUT], at: usize) -> usize {
     match entered {
-        Entered::New(n, _) => put_last(b" new ", n as u64, out, at),
-        Entered::Present(n, _) => put_last(b" present ", n as u64, out, at),
-        Entered::Refused(r) => put_refusal(r, out, at),
+        Ok(Entered::New(n, _)) => put_last(b" new ", n as u64, out, at),
+        Ok(Entered::Present(n, _)) => put_last(b" present ", n as u64, out, at),
+        Err(r) => put_refusal(r, out, at),
     }
 }
 
 // The answer to a line: its number and what became of its word.
-pub fn put(number: u64, entered: Entered, out: &mut [u8; OUTPUT], at: usize) -> usize {
+pub fn put(
+    number: u64,
+    entered: Result<Entered, Refusal>,
+    out: &mut [u8; OUTPUT],
+    at: usize,
+) -> usize {
     let numbered = printing::put_decimal(number, out, at);
     put_entered(entered, out, numbered)
-}
-
-// Whether an entry is new.
-pub fn is_new(entered: Entered) -> bool {
-    match entered {
-        Entered::New(_, _) => true,
-        Entered::Present(_, _) => false,
-        Entered::Refused(_) => false,
-    }
 }

@@ -1,10 +1,12 @@
-// The words of the command line.
-ghost use Rattle.std.specs.Prelude.{◌≤◌, length};
-
+// The words of the command line. The crate `console` has such steps too: kept apart, since all that the two share is a
+// call of `Env` in each, and their numbers differ.
 use crate::text::tell;
 use std::env::{Env, FillError};
 
-// The highest number of a command line; one above it stands for what is no number.
+// The most bytes of the word that tells what to do.
+pub const WORD: usize = 8;
+
+// The highest number of a command line.
 const HIGHEST: u64 = 65536;
 
 // One command a line.
@@ -23,64 +25,45 @@ pub fn usage() {
 fn is_there<E: Env>(words: &E, i: usize) -> bool {
     let mut word = [0u8; 8];
     match words.arg(i, &mut word) {
-        Ok(_) => true,
-        Err(FillError::TooLong) => true,
+        Ok(_) | Err(FillError::TooLong) => true,
         Err(FillError::NotPresent) => false,
     }
 }
 
 // How many words there are, the program's name among them.
 pub fn count<E: Env>(words: &E) -> usize {
-    for i in 0..usize::MAX {
-        if !is_there(words, i) {
-            return i;
-        }
-    }
-    usize::MAX
+    (0..usize::MAX)
+        .find(|&i| !is_there(words, i))
+        .unwrap_or(usize::MAX)
 }
 
-// Puts word i at the front of a buffer: how many bytes it has, 0 where there is none or where it does not fit.
-pub fn put<E: Env>(words: &E, i: usize, out: &mut [u8]) -> usize
-    ensures { result ≤ length out.new }
-{
-    match words.arg(i, out) {
-        Ok(n) => n,
-        Err(_) => 0,
+// Word i, or nothing where there is none or where it does not fit the room.
+pub fn text<'a, E: Env>(words: &E, i: usize, room: &'a mut [u8]) -> &'a [u8] {
+    match words.arg(i, room) {
+        Ok(n) => &room[..n],
+        Err(_) => &[],
     }
 }
 
-// Whether the command has a name.
-pub fn is<E: Env>(words: &E, name: &[u8]) -> bool {
-    let mut word = [0u8; 8];
-    let n = put(words, 2, &mut word);
-    &word[..n] == name
+// The word that tells what to do.
+pub fn word<'a, E: Env>(words: &E, room: &'a mut [u8; WORD]) -> &'a [u8] {
+    text(words, 2, room)
 }
 
 // One more digit behind a number.
-fn with_digit(value: u64, digit: u8) -> u64 {
-    if value > HIGHEST || digit < b'0' || digit > b'9' {
-        return HIGHEST + 1;
+fn with_digit(value: u64, digit: u8) -> Option<u64> {
+    if value > HIGHEST || !digit.is_ascii_digit() {
+        return None;
     }
-    value * 10 + (digit % 16) as u64
-}
-
-// Decimal digits as a number.
-fn value(digits: &[u8]) -> u64 {
-    let mut value = 0;
-    let mut i = 0;
-    while i < digits.len() {
-        value = with_digit(value, digits[i]);
-        i += 1;
-    }
-    value
+    Some(value * 10 + u64::from(digit - b'0'))
 }
 
 // The argument of the command as a number.
-pub fn number<E: Env>(words: &E) -> u64 {
-    let mut digits = [0u8; 16];
-    let n = put(words, 3, &mut digits);
-    if n == 0 {
-        return HIGHEST + 1;
+pub fn number<E: Env>(words: &E) -> Option<u64> {
+    let mut room = [0u8; 16];
+    let digits = text(words, 3, &mut room);
+    if digits.is_empty() {
+        return None;
     }
-    value(&digits[..n])
+    digits.iter().try_fold(0, |value, &c| with_digit(value, c))
 }

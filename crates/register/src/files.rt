@@ -14,35 +14,33 @@ use std::{fs, io, str};
 // The bytes of the longest name of a file, and of that of a draft.
 pub const NAME: usize = 4096;
 
-pub const DRAFT: usize = NAME + 4;
+pub const DRAFT_NAME: usize = NAME + 4;
 
 // The most bytes that are read of a file: one more than a register has.
 pub const ROOM: usize = MOST_BYTES + 1;
 
-// How many bytes a file has, or that it cannot be read.
+// The draft of a file, open to be written, and both names.
 #[derive(Drop)]
-pub enum Loaded {
-    Size(usize),
-    Failed,
+pub struct Draft<'a> {
+    opened: File,
+    file: &'a [u8],
+    name: &'a [u8],
 }
 
 // The name of the draft of a file: its own and `.new`.
-pub fn draft_name(file: &[u8], name: &mut [u8; DRAFT]) -> usize {
+pub fn draft_name(file: &[u8], name: &mut [u8; DRAFT_NAME]) -> usize {
     let end = printing::put(file, name, 0);
     printing::put(b".new", name, end)
 }
 
 // The name of a draft that was put into a buffer.
-pub fn name_in(name: &[u8; DRAFT], n: usize) -> &[u8] {
+pub fn name_in(name: &[u8; DRAFT_NAME], n: usize) -> &[u8] {
     parts::front(name, n)
 }
 
 // A name as text; no file is opened by other bytes.
 fn path(name: &[u8]) -> io::Result<&str> {
-    match str::from_utf8(name) {
-        Ok(text) => Ok(text),
-        Err(_) => Err(Error::from(ErrorKind::InvalidFilename)),
-    }
+    str::from_utf8(name).or(Err(Error::from(ErrorKind::InvalidFilename)))
 }
 
 // Opens a file to be read.
@@ -81,43 +79,41 @@ fn unlink<R: Files>(rt: &R, file: &[u8]) -> io::Result<()> {
 }
 
 // Removes a draft that this run made; says so where that fails.
-fn remove<R: Files>(rt: &R, draft: &[u8]) {
-    if let Err(e) = unlink(rt, draft) {
-        fail(draft, e);
+fn remove<R: Files>(rt: &R, name: &[u8]) {
+    if let Err(e) = unlink(rt, name) {
+        fail(name, e);
     }
-}
-
-// Closes and removes a draft.
-pub fn abandon<R: Files>(rt: &R, opened: File, draft: &[u8]) {
-    drop(opened);
-    remove(rt, draft);
 }
 
 // Says why there is no draft of this run.
-fn refuse(e: Error, file: &[u8], draft: &[u8]) {
+fn refuse(e: Error, file: &[u8], name: &[u8]) {
     if e.kind() == ErrorKind::AlreadyExists {
         tell_taken(file);
     } else {
-        fail(draft, e);
+        fail(name, e);
     }
 }
 
-// A draft that was made, unless it has the number of a standard stream: then there is no use for it, which is said.
-fn admit<R: Files>(rt: &R, opened: File, draft: &[u8]) -> Option<File> {
-    if opened.as_raw_fd() > STDERR {
-        return Some(opened);
-    }
-    abandon(rt, opened, draft);
-    tell(b"register: standard input, output and error have to be open\n");
-    None
-}
-
-// Makes the draft, which has to be new; answers it, or nothing and says why.
-pub fn claim<R: Files<File = File>>(rt: &R, file: &[u8], draft: &[u8]) -> Option<File> {
-    match create(rt, draft) {
-        Ok(opened) => admit(rt, opened, draft),
+// Makes the draft of a file, which has to be new; answers it, or nothing and says why. There is no use for one that has
+// the number of a standard stream.
+pub fn claim<'a, R: Files<File = File>>(
+    rt: &R,
+    file: &'a [u8],
+    name: &'a [u8],
+) -> Option<Draft<'a>> {
+    match create(rt, name) {
+        Ok(opened) => {
+            let is_usable = opened.as_raw_fd() > STDERR;
+            let draft = Draft { opened, file, name };
+            if is_usable {
+                return Some(draft);
+            }
+            draft.abandon(rt);
+            tell(b"register: standard input, output and error have to be open\n");
+            None
+        }
         Err(e) => {
-            refuse(e, file, draft);
+            refuse(e, file, name);
             None
         }
     }
@@ -130,34 +126,46 @@ fn write(opened: &mut File, bytes: &[u8]) -> io::Result<()> {
 }
 
 // Gives a draft the name of its file.
-fn give_name<R: Files>(rt: &R, file: &[u8], draft: &[u8]) -> io::Result<()> {
-    fs::rename(rt, path(draft)?, path(file)?)
+fn give_name<R: Files>(rt: &R, file: &[u8], name: &[u8]) -> io::Result<()> {
+    fs::rename(rt, path(name)?, path(file)?)
 }
 
 // Gives a draft the name of its file; answers whether that is done.
-fn rename<R: Files>(rt: &R, file: &[u8], draft: &[u8]) -> bool {
-    match give_name(rt, file, draft) {
+fn rename<R: Files>(rt: &R, file: &[u8], name: &[u8]) -> bool {
+    match give_name(rt, file, name) {
         Ok(()) => true,
         Err(e) => {
             fail(file, e);
-            remove(rt, draft);
+            remove(rt, name);
             false
         }
     }
 }
 
-// Puts bytes in the place of a file by way of its draft; answers whether that is done. Else the file is as it was.
-pub fn replace<R: Files>(rt: &R, opened: File, file: &[u8], draft: &[u8], bytes: &[u8]) -> bool {
-    let mut opened = opened;
-    match write(&mut opened, bytes) {
-        Ok(()) => {
-            drop(opened);
-            rename(rt, file, draft)
-        }
-        Err(e) => {
-            fail(draft, e);
-            abandon(rt, opened, draft);
-            false
+impl Draft<'_> {
+    // Closes and removes the draft.
+    pub fn abandon<R: Files>(self, rt: &R) {
+        let Draft { opened, name, .. } = self;
+        drop(opened);
+        remove(rt, name);
+    }
+
+    // Puts bytes in the place of the file by way of the draft: whether that is done. Else the file is as it was.
+    pub fn replace<R: Files>(self, rt: &R, bytes: &[u8]) -> bool {
+        let Draft {
+            mut opened,
+            file,
+            name,
+        } = self;
+        let written = write(&mut opened, bytes);
+        drop(opened);
+        match written {
+            Ok(()) => rename(rt, file, name),
+            Err(e) => {
+                fail(name, e);
+                remove(rt, name);
+                false
+            }
         }
     }
 }
@@ -186,23 +194,24 @@ fn is_end(opened: &mut File, file: &[u8]) -> bool {
     }
 }
 
-// Reads a file to its end, or as far as there is room; says so if it cannot be read.
-fn read_whole(opened: File, file: &[u8], room: &mut [u8; ROOM]) -> Loaded {
+// Reads a file to its end, or as far as there is room: how many bytes; says so if it cannot be read.
+fn read_whole(opened: File, file: &[u8], room: &mut [u8; ROOM]) -> Option<usize> {
     let mut opened = opened;
     let n = read_full(&mut opened, room);
     if n == ROOM || is_end(&mut opened, file) {
-        return Loaded::Size(n);
+        return Some(n);
     }
-    Loaded::Failed
+    None
 }
 
-// Reads a file that was opened to its end, or as far as there is room; says so if it cannot be opened or read.
-pub fn load(opened: io::Result<File>, file: &[u8], room: &mut [u8; ROOM]) -> Loaded {
+// Reads a file that was opened to its end, or as far as there is room: how many bytes; says so if it cannot be opened
+// or read.
+pub fn load(opened: io::Result<File>, file: &[u8], room: &mut [u8; ROOM]) -> Option<usize> {
     match opened {
         Ok(opened) => read_whole(opened, file, room),
         Err(e) => {
             fail(file, e);
-            Loaded::Failed
+            None
         }
     }
 }

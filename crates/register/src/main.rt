@@ -5,6 +5,7 @@
 mod answers;
 mod command;
 mod entering;
+mod entries;
 mod faults;
 mod files;
 mod making;
@@ -20,23 +21,21 @@ use std::rt::Files;
 
 // A command with no argument.
 fn show<R: Files<File = File> + Env>(rt: &R, file: &[u8]) {
-    if command::is(rt, b"list") {
-        showing::list(rt, file);
-    } else if command::is(rt, b"check") {
-        showing::check(rt, file);
-    } else {
-        command::usage();
+    let mut word = [0u8; command::WORD];
+    match command::word(rt, &mut word) {
+        b"list" => showing::list(rt, file),
+        b"check" => showing::check(rt, file),
+        _ => command::usage(),
     }
 }
 
-// A command with one argument.
+// A command with one argument, a number.
 fn change<R: Files<File = File> + Env, I: Read>(rt: &R, input: &mut I, file: &[u8]) {
-    if command::is(rt, b"new") {
-        making::make(rt, file, command::number(rt));
-    } else if command::is(rt, b"enter") {
-        entering::enter(rt, input, file, command::number(rt));
-    } else {
-        command::usage();
+    let mut word = [0u8; command::WORD];
+    match (command::word(rt, &mut word), command::number(rt)) {
+        (b"new", Some(n)) => making::make(rt, file, n as usize),
+        (b"enter", Some(n)) => entering::enter(rt, input, file, n),
+        _ => command::usage(),
     }
 }
 
@@ -50,12 +49,12 @@ fn run<R: Files<File = File> + Env, I: Read>(rt: &R, input: &mut I, file: &[u8])
 }
 
 fn main(rt: HostRuntime) {
-    let mut file = [0u8; files::NAME];
-    let n = command::put(&rt, 1, &mut file);
-    if n > 0 {
-        let mut input = rt.stdin();
-        run(&rt, &mut input, &file[..n]);
-    } else {
+    let mut name = [0u8; files::NAME];
+    let file = command::text(&rt, 1, &mut name);
+    if file.is_empty() {
         command::usage();
+    } else {
+        let mut input = rt.stdin();
+        run(&rt, &mut input, file);
     }
 }

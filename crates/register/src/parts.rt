@@ -1,23 +1,11 @@
-// Parts of slices, for every count.
-use std::num::wrapping_sub_usize;
+// Parts of slices, for every count: `get` with what stands for a part that is not there.
 
 // The first n bytes, or all.
 pub fn front(s: &[u8], n: usize) -> &[u8] {
-    if n < s.len() {
-        return &s[0..n];
-    }
-    s
+    s.get(..n).unwrap_or(s)
 }
 
-// What stands behind the first n bytes.
-pub fn behind(s: &[u8], n: usize) -> &[u8] {
-    if n < s.len() {
-        return &s[n..];
-    }
-    &s[0..0]
-}
-
-// The bytes from a place up to another.
+// The bytes from a place up to another, as far as there are any.
 pub fn between(s: &[u8], start: usize, end: usize) -> &[u8] {
-    front(behind(s, start), wrapping_sub_usize(end, start))
+    front(s.get(start..).unwrap_or(&[]), end.wrapping_sub(start))
 }

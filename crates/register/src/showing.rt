@@ -1,8 +1,8 @@
 // What a file holds, for people: its entries, or how many there are and how much room is left.
-use crate::files::{Loaded, ROOM};
+use crate::files::ROOM;
 use crate::text::{STDERR, STDOUT};
-use crate::{faults, files, parts, text};
-use registers::{EntryAt, FIRST_SIZE, Heading, Overview, SummaryOf};
+use crate::{entries, faults, files, parts, text};
+use registers::{Heading, Overview};
 use std::fs::File;
 use std::rt::Files;
 
@@ -14,27 +14,10 @@ fn show_entry(register: &[u8], h: Heading) -> bool {
     io::write_all(STDOUT, b"\n")
 }
 
-// All entries, in order. An entry has at least a byte, so that the turns suffice.
-fn show_entries(register: &[u8]) -> bool {
-    let mut well = true;
-    let mut at = FIRST_SIZE;
-    let mut turns = register.len();
-    while turns > 0 && well {
-        turns -= 1;
-        let entry = registers::entry_at(register, at);
-        let EntryAt::Entry(h) = entry else {
-            return true;
-        };
-        well = show_entry(register, h);
-        at = h.next;
-    }
-    well
-}
-
 // The entries of a register, or what is wrong.
 fn list_register(register: &[u8]) {
-    if faults::is_sound(register) {
-        text::confirm(show_entries(register));
+    if registers::check_register(register).is_ok() {
+        text::confirm(entries::all(register, |h| show_entry(register, h)));
     } else {
         faults::describe(STDERR, register);
     }
@@ -44,25 +27,18 @@ fn list_register(register: &[u8]) {
 pub fn list<R: Files<File = File>>(rt: &R, file: &[u8]) {
     let mut room = [0u8; ROOM];
     let loaded = files::load(files::open_read(rt, file), file, &mut room);
-    if let Loaded::Size(n) = loaded {
+    if let Some(n) = loaded {
         list_register(files::contents(&room, n));
     }
 }
 
 // How many entries a register has.
 fn count_entries(register: &[u8]) -> u64 {
-    let mut count = 0;
-    let mut at = FIRST_SIZE;
-    let mut turns = register.len();
-    while turns > 0 {
-        turns -= 1;
-        let entry = registers::entry_at(register, at);
-        let EntryAt::Entry(h) = entry else {
-            return count;
-        };
-        count = std::num::wrapping_add_u64(count, 1);
-        at = h.next;
-    }
+    let mut count = 0u64;
+    entries::all(register, |_| {
+        count = count.wrapping_add(1);
+        true
+    });
     count
 }
 
@@ -71,17 +47,15 @@ fn show_overview(register: &[u8], o: Overview) -> bool {
     text::named(b"entries ", count_entries(register));
     text::named(b"last number ", o.last as u64);
     text::named(b"bytes used ", o.end as u64);
-    let free = std::num::wrapping_sub_usize(register.len(), o.end);
+    let free = register.len().wrapping_sub(o.end);
     text::named(b"bytes free ", free as u64)
 }
 
 // How full a register is, or what is wrong.
 fn check_register(register: &[u8]) {
-    let overview = faults::overview(register);
-    if let SummaryOf::Register(o) = overview {
-        text::confirm(show_overview(register, o));
-    } else {
-        faults::describe(STDOUT, register);
+    match registers::summary(register, 0) {
+        Ok(o) => text::confirm(show_overview(register, o)),
+        Err(_) => faults::describe(STDOUT, register),
     }
 }
 
@@ -89,7 +63,7 @@ fn check_register(register: &[u8]) {
 pub fn check<R: Files<File = File>>(rt: &R, file: &[u8]) {
     let mut room = [0u8; ROOM];
     let loaded = files::load(files::open_read(rt, file), file, &mut room);
-    if let Loaded::Size(n) = loaded {
+    if let Some(n) = loaded {
         check_register(files::contents(&room, n));
     }
 }

@@ -3,7 +3,6 @@ use crate::parts;
 use std::fmt;
 use std::fmt::Write;
 use std::io::Error;
-use std::num::wrapping_sub_usize;
 
 // The numbers of standard output and standard error.
 pub const STDOUT: i32 = 1;
@@ -13,7 +12,7 @@ pub const STDERR: i32 = 2;
 // The most bytes of an error's text.
 const TEXT: usize = 256;
 
-// An error's text in a buffer, and how many bytes of it are used.
+// An error's text in a buffer, and how many bytes of it are used. No heap: what does not fit is left out.
 #[derive(Drop)]
 struct Text {
     bytes: [u8; TEXT],
@@ -35,7 +34,7 @@ pub fn tell(remark: &[u8]) {
 // An error's text without the blank and the number in parentheses behind it.
 fn without_number(text: &[u8]) -> &[u8] {
     match text.iter().rposition(|x| *x == b'(') {
-        Some(i) => parts::front(text, wrapping_sub_usize(i, 1)),
+        Some(i) => parts::front(text, i.wrapping_sub(1)),
         None => text,
     }
 }
@@ -79,9 +78,7 @@ fn hex_byte(x: u8) {
 
 // Bytes in hexadecimal digits, two each.
 pub fn hex(bytes: &[u8]) {
-    let mut i = 0;
-    while i < bytes.len() {
-        hex_byte(bytes[i]);
-        i += 1;
+    for &x in bytes {
+        hex_byte(x);
     }
 }

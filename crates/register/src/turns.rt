@@ -4,7 +4,7 @@ use crate::files::ROOM;
 use crate::text::STDOUT;
 use crate::{answers, parts, text};
 use records::BASE_SIZE;
-use refusals::LIMIT;
+use refusals::{LIMIT, Refusal};
 use std::io::Read;
 use updates::Entered;
 
@@ -24,20 +24,22 @@ pub struct Target {
     pub size: usize,
 }
 
-// Behind a part of the input: whether there may be more and all went well, the number of the line that has begun and
-// how many of its bytes are held, whether an entry is new, and how many bytes of answers are held.
+// Behind a part of the input: whether an entry is new, the number of the line that has begun and how many of its bytes
+// are held, and how many bytes of answers are held.
 #[derive(Clone, Copy)]
 pub struct Turn {
-    pub more: bool,
-    pub well: bool,
     pub fresh: bool,
     pub number: u64,
     pub held: usize,
     pub used: usize,
 }
 
+// The input cannot be read or the answers cannot be written: it was said.
+#[derive(Clone, Copy)]
+pub struct Failed;
+
 // A word, in memory that suffices for every word.
-fn enter_word(word: &[u8], holder: u16, register: &mut [u8]) -> Entered {
+fn enter_word(word: &[u8], holder: u16, register: &mut [u8]) -> Result<Entered, Refusal> {
     let mut b_table = [0u16; LIMIT + 1];
     let mut a_table = [0u16; LIMIT + 1];
     let mut record = [0u8; BASE_SIZE + 4 * LIMIT];
@@ -51,27 +53,6 @@ fn enter_word(word: &[u8], holder: u16, register: &mut [u8]) -> Entered {
     )
 }
 
-// A word, entered into a register at the front of what is lent.
-fn enter_front(word: &[u8], target: Target, room: &mut [u8]) -> Entered {
-    let size = target.size;
-    if size < room.len() {
-        return enter_word(word, target.holder, &mut room[0..size]);
-    }
-    enter_word(word, target.holder, room)
-}
-
-// Behind a line, where it was answered.
-fn behind_line(t: Turn, is_new: bool, used: usize) -> Turn {
-    Turn {
-        more: t.more,
-        well: t.well,
-        fresh: t.fresh | is_new,
-        number: std::num::wrapping_add_u64(t.number, 1),
-        held: 0,
-        used,
-    }
-}
-
 // A line that has ended.
 fn take_line(
     line: &[u8; LINE],
@@ -80,9 +61,14 @@ fn take_line(
     out: &mut [u8; OUTPUT],
     t: Turn,
 ) -> Turn {
-    let entered = enter_front(parts::front(line, t.held), target, room);
-    let used = answers::put(t.number, entered, out, t.used);
-    behind_line(t, answers::is_new(entered), used)
+    let size = target.size.min(ROOM);
+    let entered = enter_word(parts::front(line, t.held), target.holder, &mut room[..size]);
+    Turn {
+        fresh: t.fresh | matches!(entered, Ok(Entered::New(_, _))),
+        number: t.number.wrapping_add(1),
+        held: 0,
+        used: answers::put(t.number, entered, out, t.used),
+    }
 }
 
 // The lines of a part. A line that ends has at least a byte, so that the turns suffice.
@@ -96,9 +82,10 @@ fn take_lines(
 ) -> Turn {
     let mut t = turn;
     let mut at = 0;
-    let mut turns = part.len();
-    while turns > 0 && at < part.len() {
-        turns -= 1;
+    for _ in 0..part.len() {
+        if at >= part.len() {
+            return t;
+        }
         let fed = lines::feed(part, at, line, t.held);
         at = fed.next;
         t.held = fed.held;
@@ -109,77 +96,52 @@ fn take_lines(
     t
 }
 
-// A turn with other signs.
-fn marked(t: Turn, more: bool, well: bool, used: usize) -> Turn {
-    Turn {
-        more,
-        well,
-        fresh: t.fresh,
-        number: t.number,
-        held: t.held,
-        used,
-    }
-}
-
 // Writes the answers that are held, where those to another part may not fit.
-fn spill(out: &[u8; OUTPUT], t: Turn) -> Turn {
+fn spill(out: &[u8; OUTPUT], t: Turn) -> Result<Turn, Failed> {
     if t.used <= MOST_HELD {
-        return t;
+        return Ok(t);
     }
-    let well = io::write_all(STDOUT, parts::front(out, t.used));
-    text::confirm(well);
-    marked(t, well, well, 0)
+    if !io::write_all(STDOUT, parts::front(out, t.used)) {
+        text::confirm(false);
+        return Err(Failed);
+    }
+    Ok(Turn { used: 0, ..t })
 }
 
-// An input that cannot be read.
-fn failed(t: Turn) -> Turn {
-    text::tell(b"register: the input cannot be read\n");
-    marked(t, false, false, t.used)
-}
-
-// One part of the input.
-fn take_part<R: Read>(
-    input: &mut R,
-    line: &mut [u8; LINE],
-    target: Target,
-    room: &mut [u8; ROOM],
-    out: &mut [u8; OUTPUT],
-    t: Turn,
-) -> Turn {
-    let mut part = [0u8; PART];
-    let Ok(n) = input.read(&mut part) else {
-        return failed(t);
+// One part of the input, read; none at its end.
+fn read<R: Read>(input: &mut R, part: &mut [u8; PART]) -> Result<usize, Failed> {
+    let Ok(n) = input.read(part) else {
+        text::tell(b"register: the input cannot be read\n");
+        return Err(Failed);
     };
-    if n == 0 {
-        return marked(t, false, true, t.used);
-    }
-    let taken = take_lines(&part[..n], line, target, room, out, t);
-    spill(out, taken)
+    Ok(n)
 }
 
 // All parts of the input, from line 1. A proved loop has to end, and nothing says that an input does: the loop counts
-// its turns down from a number that no run uses up.
+// turns, to a number that no run uses up.
 fn take_parts<R: Read>(
     input: &mut R,
     line: &mut [u8; LINE],
     target: Target,
     room: &mut [u8; ROOM],
     out: &mut [u8; OUTPUT],
-) -> Turn {
+) -> Result<Turn, Failed> {
+    let mut part = [0u8; PART];
     let mut t = Turn {
-        more: true,
-        well: true,
         fresh: false,
         number: 1,
         held: 0,
         used: 0,
     };
-    let mut turns = u64::MAX;
-    while turns > 0 && t.more {
-        turns -= 1;
-        t = take_part(input, line, target, room, out, t);
+    for _ in 0..u64::MAX {
+        let n = read(input, &mut part)?;
+        if n == 0 {
+            break;
+        }
+        let taken = take_lines(parts::front(&part, n), line, target, room, out, t);
+        t = spill(out, taken)?;
     }
-    t
+    Ok(t)
 }
 
 // All parts of the input, and a line that has no end.
@@ -188,11 +150,11 @@ pub fn take_all<R: Read>(
     target: Target,
     room: &mut [u8; ROOM],
     out: &mut [u8; OUTPUT],
-) -> Turn {
+) -> Result<Turn, Failed> {
     let mut line = [0u8; LINE];
-    let t = take_parts(input, &mut line, target, room, out);
+    let t = take_parts(input, &mut line, target, room, out)?;
     if t.held == 0 {
-        return t;
+        return Ok(t);
     }
-    take_line(&line, target, room, out, t)
+    Ok(take_line(&line, target, room, out, t))
 }

@@ -8,15 +8,13 @@ use lib.ListN.{length, get_or, take, drop, length-drop, drop_of_length-le}
 use lib.Seq.{get_or-drop, drop-cons, drop-drop}
 use lib.Dec.{eqb, ltb}
 use borrow.Author.Tests.{ltb-false, eqb-true, le-ltb, eq-eqb, ne_eqb}
+use Rattle.std.specs.Prelude.{Option, Some, None, Result, Ok, Err}
+use Rattle.refusals.specs.declared.Refusal.{Refusal}
 use Rattle.fields.specs.Fields.{two_at, four_at_value, head_size}
-use Rattle.fields.specs.declared.Field.TheVariants as Fields
 use Rattle.fields.specs.inside.Reading.{field_at}
 use Rattle.fields.proofs.FieldsAt.{Found, field_found}
 use Rattle.refusals.specs.declared.Refusal.TheVariants.{BadRegister}
 use Rattle.registers.specs.declared.Heading.{Heading}
-use Rattle.registers.specs.declared.EntryAt.{EntryAt}
-use Rattle.registers.specs.declared.EntryAt.TheVariants as Entries
-use Rattle.registers.specs.declared.heads.First.TheVariants.{Last, Missing}
 use Rattle.registers.specs.Format.{last_tag, entry_tag, number_size, entry_base, first_size, register_most}
 use Rattle.registers.specs.Reading.{ends, entry_size, entry_stands, first_stands, number_in, holder_in, record_in}
 use Rattle.registers.specs.Answers.{heading_of, heading_at}
@@ -74,31 +72,31 @@ first_opens s e = go (ltb register_most (length s)) (ltb (length s) first_size) 
     go false true t u a b c d h = let z : ◌≡◌ {A = ℕ} 0 1 = cc in absurd (omega arith)
     go true q t u a b c d h = let z : ◌≡◌ {A = ℕ} 0 1 = cc in absurd (omega arith)
 
-pub first_last : (s : List ℕ) (k : ℕ) → FirstField s → k ≡ four_at_value s head_size → Last k ≡ first_of s
-first_last s k h e = ap Last e ∙ ap (λ (p : Bool). cond p (Last (four_at_value s head_size)) Missing) (sym (first_true h))
+pub first_last : (s : List ℕ) (k : ℕ) → FirstField s → k ≡ four_at_value s head_size → Some k ≡ first_of s
+first_last s k h e = ap Some e ∙ ap (λ (p : Bool). cond p (Some (four_at_value s head_size)) None) (sym (first_true h))
 
-pub first_missing : (s : List ℕ) → (FirstField s → ⊥) → Missing ≡ first_of s
+pub first_missing : (s : List ℕ) → (FirstField s → ⊥) → None ≡ first_of s
 first_missing s n = go (first_stands s) refl
   where
-    go : (p : Bool) → first_stands s ≡ p → Missing ≡ cond p (Last (four_at_value s head_size)) Missing
+    go : (p : Bool) → first_stands s ≡ p → None ≡ cond p (Some (four_at_value s head_size)) None
     go true e = absurd (n (first_opens s e))
     go false e = refl
 
-pub first_long : (s : List ℕ) → register_most < length s → Missing ≡ first_of s
+pub first_long : (s : List ℕ) → register_most < length s → None ≡ first_of s
 first_long s lt = first_missing s (λ h. omega (arith, h.short))
 
-pub first_no_field : (s : List ℕ) → field_at s 0 last_tag ≡ Fields.Missing → Missing ≡ first_of s
+pub first_no_field : (s : List ℕ) → field_at s 0 last_tag ≡ None → None ≡ first_of s
 first_no_field s e =
     first_missing s
-    (λ h. let b : Fields.Body number_size ≡ Fields.Missing = field_found s 0 last_tag number_size h.stands ∙ e in
+    (λ h. let b : Some number_size ≡ None = field_found s 0 last_tag number_size h.stands ∙ e in
     let z : ◌≡◌ {A = ℕ} 0 1 = cc in
     omega arith)
 
-pub first_other_size : (s : List ℕ) (n : ℕ) → Found s 0 last_tag n → (n ≡ number_size → ⊥) → Missing ≡ first_of s
+pub first_other_size : (s : List ℕ) (n : ℕ) → Found s 0 last_tag n → (n ≡ number_size → ⊥) → None ≡ first_of s
 first_other_size s n found other = first_missing s (λ h. other (found.size ∙ sym h.stands.size))
 
 pub first_stood : (s : List ℕ) (n k : ℕ) → length s ≤ register_most → Found s 0 last_tag n → n ≡ number_size
-    → k ≡ four_at_value s head_size → Last k ≡ first_of s
+    → k ≡ four_at_value s head_size → Some k ≡ first_of s
 first_stood s n k short found e last =
     first_last s k
     (record {
@@ -185,36 +183,36 @@ heading_same s at n number holder start next h a b c d =
 ends_at : (s : List ℕ) (at : ℕ) → at < length s → ends (drop at s) ≡ eqb (get_or s at 0) 0
 ends_at s at lt = ap ends (drop-cons s at 0 lt)
 
-pub at_end : (s : List ℕ) (at : ℕ) → length s ≤ at → Entries.End ≡ heading_at s at
+pub at_end : (s : List ℕ) (at : ℕ) → length s ≤ at → (Ok None) ≡ heading_at s at
 at_end s at le = rw (drop_of_length-le s le)
 
-pub at_mark : (s : List ℕ) (at : ℕ) → at < length s → get_or s at 0 ≡ 0 → Entries.End ≡ heading_at s at
+pub at_mark : (s : List ℕ) (at : ℕ) → at < length s → get_or s at 0 ≡ 0 → (Ok None) ≡ heading_at s at
 at_mark s at lt e = simp (ends_at s at lt ∙ eq-eqb (get_or s at 0) 0 e)
 
 -- A byte that is not 00, where no entry stands, and where one does.
 pub at_wrong : (s : List ℕ) (at : ℕ) → at < length s → (get_or s at 0 ≡ 0 → ⊥) → (Stands (drop at s) → ⊥)
-    → Entries.Refused BadRegister ≡ heading_at s at
+    → Err BadRegister ≡ heading_at s at
 at_wrong s at lt n w =
     simp (ends_at s at lt ∙ ne_eqb (get_or s at 0) 0 n, stands_false (drop at s) w)
 
 pub at_missing : (s : List ℕ) (at : ℕ) → at < length s → (get_or s at 0 ≡ 0 → ⊥)
-    → field_at s at entry_tag ≡ Fields.Missing → Entries.Refused BadRegister ≡ heading_at s at
+    → field_at s at entry_tag ≡ None → Err BadRegister ≡ heading_at s at
 at_missing s at lt n e =
     at_wrong s at lt n
-    (λ h. let b : Fields.Body (two_at (drop at s) 1) ≡ Fields.Missing =
+    (λ h. let b : Some (two_at (drop at s) 1) ≡ None =
     field_found s at entry_tag (two_at (drop at s) 1) (stands_found s at h) ∙ e in
     let z : ◌≡◌ {A = ℕ} 0 1 = cc in
     omega arith)
 
 pub at_short : (s : List ℕ) (at n : ℕ) → at < length s → (get_or s at 0 ≡ 0 → ⊥) → Found s at entry_tag n → n < entry_base
-    → Entries.Refused BadRegister ≡ heading_at s at
+    → Err BadRegister ≡ heading_at s at
 at_short s at n lt other found small =
     at_wrong s at lt other (λ h. omega (arith, h.base, two_drop s at 1, found.size))
 
 pub at_entry : (s : List ℕ) (at n : ℕ) (h : Heading) → at < length s → (get_or s at 0 ≡ 0 → ⊥) → Found s at entry_tag n
-    → entry_base ≤ n → h ≡ heading_of (drop at s) at → Entries.Entry h ≡ heading_at s at
+    → entry_base ≤ n → h ≡ heading_of (drop at s) at → Ok (Some h) ≡ heading_at s at
 at_entry s at n h lt other found le e =
-    ap Entries.Entry e
+    ap (λ (g : Heading). Ok (Some g)) e
     ∙ simp (ends_at s at lt ∙ ne_eqb (get_or s at 0) 0 other, stands_true (found_stands s at n found le))
 
 -- Where an entry stands, its head is the answer.
@@ -223,7 +221,7 @@ ends_other [] e = absurd (omega arith)
 ends_other (x ∷ s) e = ne_eqb x 0 (λ z. omega arith)
 
 pub stands_entry : (s : List ℕ) (at : ℕ) → Stands (drop at s)
-    → heading_at s at ≡ Entries.Entry (heading_of (drop at s) at)
+    → heading_at s at ≡ Ok (Some (heading_of (drop at s) at))
 stands_entry s at h = simp (ends_other (drop at s) h.tagged, stands_true h)
 
 -- The entry with a head stands at a place.
@@ -232,12 +230,12 @@ pub record EntryStood (s : List ℕ) (at : ℕ) (h : Heading) : Type 0 where
   pub headed : Headed s at (two_at (drop at s) 1)
   pub head : h ≡ heading_of (drop at s) at
 
-pub entry_stood : (s : List ℕ) (at : ℕ) (h : Heading) → heading_at s at ≡ Entries.Entry h → EntryStood s at h
+pub entry_stood : (s : List ℕ) (at : ℕ) (h : Heading) → heading_at s at ≡ Ok (Some h) → EntryStood s at h
 entry_stood s at h e = go (ends (drop at s)) (entry_stands (drop at s)) refl e
   where
     go : (p q : Bool) → entry_stands (drop at s) ≡ q
-        → cond p Entries.End (cond q (Entries.Entry (heading_of (drop at s) at)) (Entries.Refused BadRegister))
-        ≡ Entries.Entry h
+        → cond p (Ok None) (cond q (Ok (Some (heading_of (drop at s) at))) (Err BadRegister))
+        ≡ Ok (Some h)
         → EntryStood s at h
     go false true a b =
         let is = stands_opens (drop at s) a in
@@ -246,7 +244,7 @@ entry_stood s at h e = go (ends (drop at s)) (entry_stands (drop at s)) refl e
     go true q a b = let z : ◌≡◌ {A = ℕ} 0 1 = cc in absurd (omega arith)
 
 -- Where the answer is no entry, none stands.
-pub no_entry : (s : List ℕ) (at : ℕ) (r : EntryAt) → r ≡ heading_at s at → ((h : Heading) → r ≡ Entries.Entry h → ⊥)
+pub no_entry : (s : List ℕ) (at : ℕ) (r : Result (Option Heading) Refusal) → r ≡ heading_at s at → ((h : Heading) → r ≡ Ok (Some h) → ⊥)
     → entry_stands (drop at s) ≡ false
 no_entry s at r e other = stands_false (drop at s) (λ h. other (heading_of (drop at s) at) (e ∙ stands_entry s at h))
 
@@ -258,9 +256,6 @@ module _ {s : List ℕ} {at : ℕ} {h : Heading} (d : Headed s at (two_at (drop 
 
     pub next_is : h.next ≡ at + entry_size (drop at s)
     next_is = ap (λ (g : Heading). g.next) e
-
-    pub record_order : h.start ≤ h.next
-    record_order = omega (arith, start_is, next_is, d.base)
 
     pub record_room : h.next ≤ length s
     record_room = omega (arith, next_is, d.room)

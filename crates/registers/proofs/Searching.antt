@@ -7,10 +7,10 @@ use Prim.Native.Nat.{ℕ, zero, suc, ◌+◌, ◌-◌, ◌≤◌}
 use native.Mathlib.Omega.{arith}
 use lib.ListN.{length, take, drop, length-drop}
 use lib.Seq.{drop-drop}
+use Rattle.std.specs.Prelude.{Some, None}
 use Rattle.lists.specs.SameBytes.{same_bytes}
 use Rattle.lists.proofs.SameBytes.{same_bytes_lem, bytes_same}
 use Rattle.registers.specs.declared.Heading.{Heading}
-use Rattle.registers.specs.declared.Search.TheVariants.{Number, Nothing}
 use Rattle.registers.specs.Format.{first_size}
 use Rattle.registers.specs.Reading.{entry_size, entry_stands, number_in, record_in}
 use Rattle.registers.specs.Finding.{find_in, found}
@@ -44,23 +44,23 @@ find_other k s bytes e other = simp (e, other)
 
 -- None stands there.
 pub search_none : {s bytes : List ℕ} {at : ℕ} → Searching s bytes at → entry_stands (drop at s) ≡ false
-    → Nothing ≡ search_of (found s bytes)
+    → None ≡ search_of (found s bytes)
 search_none {s} {bytes} {at} w e =
     ap search_of (sym (find_none w.fuel (drop at s) bytes e) ∙ w.goes_on)
 
 -- One with the record.
 pub search_same : {s bytes : List ℕ} {at : ℕ} {h : Heading} → Searching s bytes at → EntryStood s at h
-    → take (h.next - h.start) (drop h.start s) ≡ bytes → Number h.number ≡ search_of (found s bytes)
+    → take (h.next - h.start) (drop h.start s) ≡ bytes → Some h.number ≡ search_of (found s bytes)
 search_same {s} {bytes} {at} {h} w e is = go w.fuel w.enough w.goes_on
   where
     same : same_bytes (record_in (drop at s)) bytes ≡ true
     same = rw (sym (sym (record_part e.headed e.head) ∙ is)) (bytes_same (record_in (drop at s)))
 
     go : (k : ℕ) → length s ≤ k + at → find_in k (drop at s) bytes ≡ found s bytes
-        → Number h.number ≡ search_of (found s bytes)
+        → Some h.number ≡ search_of (found s bytes)
     go zero le on = absurd (omega (arith, e.stands.whole, length-drop at s))
     go (suc k) le on =
-        ap (λ (g : Heading). Number g.number) e.head
+        ap (λ (g : Heading). Some g.number) e.head
         ∙ ap search_of (sym (find_same k (drop at s) bytes (stands_true e.stands) same) ∙ on)
 
 -- One with another record.

@@ -22,12 +22,9 @@ use Rattle.registers.specs.Reading.{ends, entry_size, entry_stands, number_in, h
 use Rattle.registers.specs.Reading.{entry_of, read_entry}
 use Rattle.registers.specs.Reading.{read_entries, not_register, last_number, may_follow, follow}
 use Rattle.registers.specs.Reading.{first_stands, judged_entries, read_register}
-use Rattle.registers.specs.Answers.{overview, overview_in, summary_of}
-use Rattle.registers.specs.declared.SummaryOf.TheVariants as Summaries
-use Rattle.registers.specs.declared.EntryAt.TheVariants as Entries
-use Rattle.refusals.specs.declared.Refusal.TheVariants.{BadRegister}
+use Rattle.registers.specs.Answers.{overview, overview_in}
 use Rattle.registers.specs.declared.Overview.{Overview}
-use Rattle.registers.specs.inside.Steps.{fingerprint, accepts, entry_fits, ended_by, table_size, count_at, marked}
+use Rattle.registers.specs.inside.Steps.{fingerprint, accepts, entry_fits, table_size, count_at, marked}
 use Rattle.registers.specs.inside.Steps.{Prepared}
 use Rattle.registers.proofs.Rests.{rest, rest-turn, rest_end, rest_broken}
 use Rattle.registers.proofs.Counts.{last_behind}
@@ -59,8 +56,8 @@ passing_starts s last at low table b w e₀ e₁ = record {
   fuel = length s;
   enough = omega arith;
   whole =
-      reads (first_stands s) w.stands
-      ∙ ap₂ (λ (x n : ℕ). then (read_entries (length s) (drop n s)) (λ es. judged_entries x es)) (sym w.number)
+      reads (first_stands s) w.first.stands
+      ∙ ap₂ (λ (x n : ℕ). then (read_entries (length s) (drop n s)) (λ es. judged_entries x es)) (sym w.first.number)
       (sym e₀);
   written = ap (λ (n : ℕ). drop n s) (sym e₀);
   place = omega (arith, e₀);
@@ -84,7 +81,7 @@ passing_starts s last at low table b w e₀ e₁ = record {
     seven : first_size ≤ length s
     seven =
         ltb-false (length s) first_size
-        (unless_fails (ltb (length s) first_size) _ (unless_passes (ltb register_most (length s)) _ w.stands))
+        (unless_fails (ltb (length s) first_size) _ (unless_passes (ltb register_most (length s)) _ w.first.stands))
 
 -- A byte that ends no list.
 some_left : (t : List ℕ) → ends t ≡ false → 0 < length t
@@ -114,13 +111,12 @@ module _ {s : List ℕ} {last at low : ℕ} {table : List ℕ} (p : Passing s la
 
   -- The list ends here: 12 where a number is above the last given, else the overview.
   pub passing_ends : (holder alive : ℕ) → holder < table_size → alive ≡ count_at table holder → ends (drop at s) ≡ true
-      → overview_in s holder ≡ summary_of (ended_by Entries.End last at low alive)
+      → overview_in s holder ≡ cond (ltb last low) not_register (accepted (record { last = last; end = at; live = alive }))
   passing_ends holder alive small is h =
       ap (λ (o : Outcome Register). then o (λ r. accepted (overview holder r)))
       (p.whole ∙ rest_end last p.fuel (drop at s) p.before h)
       ∙ judged (ltb last (last_number 0 p.before)) (follow [] p.before) p.followed
       ∙ ap₂ (λ (n : ℕ) (o : Overview). cond (ltb last n) not_register (accepted o)) (sym p.lowest) same
-      ∙ told (ltb last low)
     where
       found : Register
       found = record { last = last; entries = p.before }
@@ -139,11 +135,6 @@ module _ {s : List ℕ} {last at low : ℕ} {table : List ℕ} (p : Passing s la
           ≡ cond b not_register (accepted (overview holder found))
       judged true f e = refl
       judged false f e = rw e refl
-
-      told : (b : Bool) → cond b not_register (accepted said)
-          ≡ summary_of (cond b (Summaries.Refused BadRegister) (Summaries.Register said))
-      told true = refl
-      told false = refl
 
   -- One turn of the reading.
   turn : ends (drop at s) ≡ false

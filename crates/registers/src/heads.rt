@@ -4,31 +4,21 @@ ghost use Rattle.registers.specs.Answers.{heading_of};
 ghost use Rattle.registers.specs.inside.Steps.{first_of, Headed};
 
 use crate::{ENTRY_HEAD, Heading, LAST_TAG, MOST_BYTES, NUMBER_SIZE};
+use fields::HEAD_SIZE;
 use fields::integers::{four_at, number_at};
-use fields::{Field, HEAD_SIZE};
-
-// The first field by its number, or none.
-#[derive(Clone, Copy)]
-pub enum First {
-    Last(u32),
-    Missing,
-}
 
 // The number of the first field, where it stands and the register is not too long.
-pub fn first_number(s: &[u8]) -> First
+pub fn first_number(s: &[u8]) -> Option<u32>
     ensures { result ≡ first_of s.now }
 {
     if MOST_BYTES < s.len() {
-        return First::Missing;
+        return None;
     }
-    let field = fields::read_field(s, 0, LAST_TAG);
-    let Field::Body(length) = field else {
-        return First::Missing;
-    };
+    let length = fields::read_field(s, 0, LAST_TAG)?;
     if length != NUMBER_SIZE {
-        return First::Missing;
+        return None;
     }
-    First::Last(four_at(s, HEAD_SIZE) as u32)
+    Some(four_at(s, HEAD_SIZE) as u32)
 }
 
 // The head of the entry that stands at an offset, with a body of so many bytes.

@@ -5,8 +5,8 @@ ghost use Rattle.std.specs.Prelude.{◌≡◌};
 ghost use Rattle.registers.specs.Finding.{found};
 ghost use Rattle.registers.specs.Answers.{RegisterChecked, Summarised, search_of, heading_at};
 
-use fields::{Field, HEAD_SIZE};
-use refusals::{Refusal, Verdict};
+use fields::HEAD_SIZE;
+use refusals::Refusal;
 
 mod heads;
 mod passing;
@@ -48,14 +48,6 @@ pub struct Heading {
     pub next: usize,
 }
 
-// The entry at an offset, the end of the list, or 12.
-#[derive(Clone, Copy)]
-pub enum EntryAt {
-    Entry(Heading),
-    End,
-    Refused(Refusal),
-}
-
 // The last number given, where the entries end, and a holder's live entries.
 #[derive(Clone, Copy)]
 pub struct Overview {
@@ -64,78 +56,46 @@ pub struct Overview {
     pub live: u64,
 }
 
-// An overview, or 12.
-#[derive(Clone, Copy)]
-pub enum SummaryOf {
-    Register(Overview),
-    Refused(Refusal),
-}
-
-// The number of the entry with a record.
-#[derive(Clone, Copy)]
-pub enum Search {
-    Number(u32),
-    Nothing,
-}
-
 // The entry at an offset by its head; its record is not read.
-pub fn entry_at(register: &[u8], at: usize) -> EntryAt
+pub fn entry_at(register: &[u8], at: usize) -> Result<Option<Heading>, Refusal>
     ensures { result ≡ heading_at register.now at }
 {
-    if register.len() <= at {
-        return EntryAt::End;
+    if register.len() <= at || register[at] == 0 {
+        return Ok(None);
     }
-    if register[at] == 0 {
-        return EntryAt::End;
-    }
-    let field = fields::read_field(register, at, ENTRY_TAG);
-    let Field::Body(length) = field else {
-        return EntryAt::Refused(Refusal::BadRegister);
-    };
+    let length = fields::read_field(register, at, ENTRY_TAG).ok_or(Refusal::BadRegister)?;
     if length < ENTRY_BASE {
-        return EntryAt::Refused(Refusal::BadRegister);
+        return Err(Refusal::BadRegister);
     }
-    EntryAt::Entry(heads::heading(register, at, length))
+    Ok(Some(heads::heading(register, at, length)))
 }
 
 // The number of the first entry, by the entries' heads alone, whose record is these bytes.
-pub fn find(register: &[u8], record: &[u8]) -> Search
+pub fn find(register: &[u8], record: &[u8]) -> Option<u32>
     ensures { result ≡ search_of (found register.now «record».now) }
 {
     let mut at = FIRST_SIZE;
-    loop {
-        let entry = entry_at(register, at);
-        let EntryAt::Entry(h) = entry else {
-            return Search::Nothing;
-        };
-        let start = h.start;
-        let next = h.next;
-        if &register[start..next] == record {
-            return Search::Number(h.number);
+    while let Some(h) = entry_at(register, at).ok()? {
+        if &register[h.start..h.next] == record {
+            return Some(h.number);
         }
-        at = next;
+        at = h.next;
     }
+    None
 }
 
 // The last number given, where the entries end and a holder's live entries, from one pass; or 12.
-pub fn summary(register: &[u8], holder: u16) -> SummaryOf
+pub fn summary(register: &[u8], holder: u16) -> Result<Overview, Refusal>
     ensures { Summarised register.now holder result }
 {
-    let first = heads::first_number(register);
-    let heads::First::Last(last) = first else {
-        return SummaryOf::Refused(Refusal::BadRegister);
-    };
-    let mut table = [0u8; TABLE];
-    passing::pass(register, last, holder, &mut table)
+    let last = heads::first_number(register).ok_or(Refusal::BadRegister)?;
+    passing::pass(register, last, holder)
 }
 
 // Whether a buffer is a well-formed register: accepted, or 12.
-pub fn check_register(register: &[u8]) -> Verdict
+pub fn check_register(register: &[u8]) -> Result<(), Refusal>
     ensures { RegisterChecked register.now result }
 {
-    let summary = summary(register, 0);
-    match summary {
-        SummaryOf::Register(_) => Verdict::Accepted,
-        SummaryOf::Refused(r) => Verdict::Refused(r),
-    }
+    summary(register, 0)?;
+    Ok(())
 }

@@ -8,13 +8,10 @@ use crate::TABLE;
 pub fn print_of(s: &[u8]) -> u32
     ensures { result ≡ fingerprint s.now }
 {
-    let mut x: u64 = 0;
-    let mut i = 0;
-    while i < s.len() {
-        x = (x * 16777619 + s[i] as u64 + 1) % 4294967296;
-        i += 1;
-    }
-    x as u32
+    s.iter().fold(
+        0,
+        |x: u32, &b| x.wrapping_mul(16777619).wrapping_add(b as u32 + 1),
+    )
 }
 
 // The place by the low half of a fingerprint.

@@ -10,3 +10,4 @@ pub mod LineReceipts
 pub mod WordSizes
 pub mod Sizes
 pub mod Rooms
+pub mod Measures

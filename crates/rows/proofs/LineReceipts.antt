@@ -4,6 +4,7 @@ use mathlib.Core.List.{List}
 use Prim.Native.Nat.{ℕ, ◌+◌, ◌≤◌}
 use native.Mathlib.Omega.{arith}
 use lib.ListN.{length, take}
+use Rattle.std.specs.Prelude.{Result, Ok, Err}
 use Rattle.lists.proofs.Writes.{sets_front}
 use Rattle.lists.proofs.Tables.{filled_front}
 use Rattle.group.specs.Letters.{Word}
@@ -15,8 +16,6 @@ use Rattle.group.proofs.Sizes.{form_sum}
 use Rattle.refusals.specs.Refusals.{number_of, place_of}
 use Rattle.refusals.specs.Outcomes.{Outcome, accepted, refused, reply_of}
 use Rattle.refusals.specs.declared.Refusal.{Refusal}
-use Rattle.refusals.specs.declared.Reply.{Reply}
-use Rattle.refusals.specs.declared.Reply.TheVariants.{Number, Refused}
 use Rattle.refusals.specs.Memory.{Memory}
 use Rattle.refusals.proofs.Outcomes.{valued_refused, valued_accepted}
 use Rattle.records.specs.Format.{encode, buffer_size}
@@ -30,16 +29,16 @@ use Rattle.rows.specs.Receipts.{refusal_receipt, receipt_by, receipt_of}
 use Rattle.letters.specs.Judging.{line_read}
 use Rattle.words.specs.inside.Lending.{LineRoom}
 use Rattle.words.proofs.LineReads.{line_judged}
-use Rattle.rows.specs.inside.Steps.{value_in, record_row, tables_row}
+use Rattle.rows.specs.inside.Steps.{value_in, record_row, tables_row, Measured}
 use Rattle.rows.proofs.WordTables.{side_table, table-carets, table-length}
 
-module _ {line : List ℕ} {m m' : Memory} {r : Reply} (h : LineRoom line m) (c : Recorded line m m' r) where
+module _ {line : List ℕ} {m m' : Memory} {r : Result ℕ Refusal} (h : LineRoom line m) (c : Recorded line m m' r) where
   -- What the call judges is what the line is read as.
   judged_line : judged_with line m ≡ line_read line
   judged_line = line_judged h
 
   -- The line is refused.
-  pub receipt_refused : (q : Refusal) (number : ℕ) → r ≡ Refused q
+  pub receipt_refused : (q : Refusal) (number : ℕ) → r ≡ Err q
       → refusal_receipt number (number_of q) (place_of q) ≡ receipt_of number line
   receipt_refused q number e =
       let so : judged_with line m ≡ refused (number_of q) (place_of q) =
@@ -48,7 +47,7 @@ module _ {line : List ℕ} {m m' : Memory} {r : Reply} (h : LineRoom line m) (c 
       ap (receipt_by number) (sym so ∙ judged_line)
 
   -- The line is a word.
-  module _ (n : ℕ) (e : r ≡ Number n) where
+  module _ (n : ℕ) (e : r ≡ Ok n) where
     -- The word, and the number of bytes of its record.
     found : (w : Word) × (judged_with line m ≡ accepted w) × (length (encode_word w) ≡ n)
     found =
@@ -83,6 +82,18 @@ module _ {line : List ℕ} {m m' : Memory} {r : Reply} (h : LineRoom line m) (c 
     record_front =
         ap (take n) (c.leaves.bytes ∙ ap (λ (o : Outcome Word). buffer_after o m.buffer) found.1)
         ∙ sets_front (encode (form_of found.0)) m.buffer n found.2 (omega (arith, record_within, fit.roomy))
+
+    -- The tables that the call left have carets and a length.
+    pub row_measured : Measured (take (length line + 1) m'.b) (take (length line + 1) m'.a)
+    row_measured =
+        let within : length found.0 ≤ limit = omega (arith, same_length, letters_within) in
+        rw (table_front b_side m.b m'.b c.leaves.b_table, table_front a_side m.a m'.a c.leaves.a_table)
+        (record {
+          carets = carets_of (form_of found.0);
+          least = form_length (form_of found.0);
+          carets_found = table-carets found.0 within;
+          length_found = table-length found.0 within;
+        })
 
     -- The row of what the call left is the receipt.
     pub receipt_row : (number : ℕ)

@@ -11,9 +11,6 @@ pub mod Reaching
 -- the sum over all columns is Fordham's length
 pub mod TableLengths
 -- the steps of the functions
-pub mod Counters
-pub mod LabelTables
-pub mod Numbered
 pub mod Loops
 pub mod Blocks
 pub mod Answers

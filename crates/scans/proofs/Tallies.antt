@@ -105,14 +105,3 @@ added_whole t x y n some c = go (waiting x y) refl
         let e = right_held t.pending n x y c h in
         ap (λ (k : ℕ). t.sum + k) (ap (λ (k : ℕ). held (t.pending + k) c) e.0 ∙ sym e.1)
     go false h = omega (arith, held_none c, plain_held t.pending n x y c h some)
-
--- Columns that wait, and columns that count.
-pub tallied_waits : (t : Tally) (w : ℕ) (q : Bool) → q ≡ true
-    → record { sum = t.sum; pending = t.pending + w } ≡ tallied t w q
-tallied_waits t w true h = refl
-tallied_waits t w false h = absurd (true≢false (sym h))
-
-pub tallied_counts : (t : Tally) (w : ℕ) (q : Bool) → q ≡ false
-    → record { sum = t.sum + (t.pending + w); pending = 0 } ≡ tallied t w q
-tallied_counts t w false h = refl
-tallied_counts t w true h = absurd (true≢false h)

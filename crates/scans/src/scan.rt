@@ -3,10 +3,10 @@ ghost use Rattle.std.specs.Prelude.{◌≡◌, ◌≤◌, ◌<◌};
 ghost use Rattle.trees.specs.Building.{tree_of};
 ghost use Rattle.trees.specs.Pairs.{max_carets};
 ghost use Rattle.lengths.specs.Weights.{pair_length};
-ghost use Rattle.scans.specs.inside.Steps.{Labels, start_side, PairOfTables, BlockAhead, BlockEnd, BlockScanned};
+ghost use Rattle.scans.specs.inside.Steps.{start_side, PairOfTables, BlockAhead, BlockEnd, BlockScanned};
 
-use crate::columns::{State, exponent, plain_columns, zero_columns};
-use crate::labels::{LABELS, read_labels};
+use crate::columns::{State, exponent};
+use crate::labels::Labels;
 use crate::sides::Side;
 use crate::table::Tally;
 use refusals::LeafNumber;
@@ -43,9 +43,8 @@ fn block_end(leaf: LeafNumber, n: usize) -> LeafNumber
 }
 
 // A block of columns, or all that are known to have no exponent behind them.
-fn scan_block(labels: &[u8], b: &[u16], a: &[u16], n: usize, p: Place) -> Place
-    requires labels { Labels labels.now }
-    requires block_ahead { BlockAhead b.now a.now n p }
+fn scan_block(labels: &Labels, b: &[u16], a: &[u16], n: usize, p: Place) -> Place
+    requires { BlockAhead b.now a.now n p }
     ensures { BlockScanned b.now a.now n p result }
 {
     let i = p.leaf.0 as usize;
@@ -53,13 +52,13 @@ fn scan_block(labels: &[u8], b: &[u16], a: &[u16], n: usize, p: Place) -> Place
     if zeros > 0 {
         return Place {
             leaf: LeafNumber((i + zeros) as u16),
-            state: zero_columns(labels, zeros, p.state),
+            state: p.state.zero_columns(labels, zeros),
         };
     }
     let stop = block_end(p.leaf, n);
     Place {
         leaf: stop,
-        state: plain_columns(labels, b, a, p.leaf, stop, p.state),
+        state: p.state.plain_columns(labels, b, a, p.leaf, stop),
     }
 }
 
@@ -69,8 +68,7 @@ pub fn scan(b: &[u16], a: &[u16], n: usize) -> usize
     requires pair_of_tables { PairOfTables b.now a.now n }
     ensures { result ≡ pair_length (tree_of n a.now) (tree_of n b.now) }
 {
-    let mut labels = [0u8; LABELS];
-    read_labels(&mut labels);
+    let labels = Labels::new();
     let mut p = Place {
         leaf: LeafNumber(2),
         state: State {

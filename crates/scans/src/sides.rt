@@ -1,8 +1,8 @@
 // A tree at a caret: what is open over it and what is to come, by two counters.
-ghost use Rattle.std.specs.Prelude.{◌≡◌, cond, ◌+◌, ◌≤◌, min};
+ghost use Rattle.std.specs.Prelude.{◌≡◌, cond, ◌+◌, ◌≤◌};
 ghost use Rattle.lengths.specs.inside.Steps.{class_byte};
 ghost use Rattle.geodesics.specs.Rows.{class_by};
-ghost use Rattle.scans.specs.inside.Steps.{bit_of, next_side, run_of, Runs, passed_side};
+ghost use Rattle.scans.specs.inside.Steps.{next_side, run_of, Runs, passed_side};
 
 use lengths::kinds::INSIDE_LEAF;
 
@@ -13,14 +13,6 @@ pub struct Side {
     pub lefts: usize,
 }
 
-// 1 where a test holds, else 0.
-pub fn bit(holds: bool) -> u8
-    ensures value { result ≡ bit_of holds }
-    ensures upper_bound { result ≤ 1 }
-{
-    if holds { 1 } else { 0 }
-}
-
 // The first test or the second.
 fn select(first: bool, x: bool, y: bool) -> bool
     ensures { result ≡ cond first x y }
@@ -28,64 +20,59 @@ fn select(first: bool, x: bool, y: bool) -> bool
     if first { x } else { y }
 }
 
-// The class of the caret, by the exponent of the leaf behind it. It is put together from tests, without a branch: the
-// classes of a dense form come in no order that a processor could foresee.
-pub fn class(side: Side, exponent: u16) -> u8
-    ensures { result ≡ class_byte (class_by side.subtrees side.lefts exponent) }
-{
-    let inside = side.subtrees > 0;
-    INSIDE_LEAF * bit(inside) + bit(select(inside, exponent > 0, side.lefts == 0))
-}
+impl Side {
+    // The class of the caret, by the exponent of the leaf behind it. It is put together from tests, without a branch:
+    // the classes of a dense form come in no order that a processor could foresee.
+    pub fn class(self, exponent: u16) -> u8
+        ensures { result ≡ class_byte (class_by self.subtrees self.lefts exponent) }
+    {
+        let inside = self.subtrees > 0;
+        INSIDE_LEAF * u8::from(inside) + u8::from(select(inside, exponent > 0, self.lefts == 0))
+    }
 
-// The tree at the next caret: each caret closes one of what is open or to come, the exponent opens as many.
-pub fn next(side: Side, exponent: u16) -> Side
-    requires { side.subtrees + exponent ≤ 4294967295 }
-    ensures { result ≡ next_side side exponent }
-{
-    let inside = bit(side.subtrees > 0) as usize;
-    let left = bit(select(side.subtrees > 0, false, side.lefts > 0)) as usize;
-    Side {
-        subtrees: side.subtrees - inside + exponent as usize,
-        lefts: side.lefts - left,
+    // The tree at the next caret: each caret closes one of what is open or to come, the exponent opens as many.
+    pub fn next(self, exponent: u16) -> Side
+        requires { self.subtrees + exponent ≤ 4294967295 }
+        ensures { result ≡ next_side self exponent }
+    {
+        let inside = usize::from(self.subtrees > 0);
+        let left = usize::from(select(self.subtrees > 0, false, self.lefts > 0));
+        Side {
+            subtrees: self.subtrees - inside + exponent as usize,
+            lefts: self.lefts - left,
+        }
     }
-}
 
-// The smaller of two numbers.
-fn smaller(m: usize, n: usize) -> usize
-    ensures { result ≡ min m n }
-{
-    if m < n { m } else { n }
-}
+    // How many carets, of the next ones with no exponent behind them, have one label.
+    pub fn run(self, most: usize) -> usize
+        ensures { result ≡ run_of self most }
+    {
+        if self.subtrees > 0 {
+            self.subtrees.min(most)
+        } else if self.lefts > 0 {
+            self.lefts.min(most)
+        } else {
+            most
+        }
+    }
 
-// How many carets, of the next ones with no exponent behind them, have one label.
-pub fn run(side: Side, most: usize) -> usize
-    ensures { result ≡ run_of side most }
-{
-    if side.subtrees > 0 {
-        return smaller(side.subtrees, most);
+    // The tree behind so many of them.
+    pub fn pass(self, count: usize) -> Side
+        requires { Runs count self }
+        ensures { result ≡ passed_side self count }
+    {
+        if self.subtrees > 0 {
+            Side {
+                subtrees: self.subtrees - count,
+                ..self
+            }
+        } else if self.lefts > 0 {
+            Side {
+                lefts: self.lefts - count,
+                ..self
+            }
+        } else {
+            self
+        }
     }
-    if side.lefts > 0 {
-        return smaller(side.lefts, most);
-    }
-    most
-}
-
-// The tree behind so many of them.
-pub fn pass(side: Side, count: usize) -> Side
-    requires { Runs count side }
-    ensures { result ≡ passed_side side count }
-{
-    if side.subtrees > 0 {
-        return Side {
-            subtrees: side.subtrees - count,
-            lefts: side.lefts,
-        };
-    }
-    if side.lefts > 0 {
-        return Side {
-            subtrees: 0,
-            lefts: side.lefts - count,
-        };
-    }
-    side
 }

@@ -1,7 +1,10 @@
 // Table 1 of 001, and the sum of its weights over columns.
-ghost use Rattle.std.specs.Prelude.{◌≡◌, ◌*◌, ◌<◌};
-ghost use Rattle.scans.specs.Table.{label_entry};
-ghost use Rattle.scans.specs.inside.Steps.{both_right, tallied, Room};
+ghost use Rattle.std.specs.Prelude.{◌≡◌};
+ghost use Rattle.lengths.specs.inside.Steps.{label_named};
+ghost use Rattle.scans.specs.Table.{number_of, label_entry};
+ghost use Rattle.scans.specs.inside.Steps.{waiting, weighing, tallied, added, Room};
+
+use lengths::kinds::CaretLabel;
 
 // The weights of columns, the label of a caret of T− over that of T+, in the order I, N, L, R, X.
 const TABLE1: [[u8; 5]; 5] = [
@@ -12,8 +15,19 @@ const TABLE1: [[u8; 5]; 5] = [
     [3, 3, 1, 2, 2],
 ];
 
-// The row and the column of R.
-const LABEL_R: usize = 3;
+// The weight of a column.
+fn weight(x: CaretLabel, y: CaretLabel) -> u8
+    ensures { result ≡ label_entry (number_of (label_named x)) (number_of (label_named y)) }
+{
+    TABLE1[x as usize][y as usize]
+}
+
+// Whether a column is R over R.
+fn both_right(x: CaretLabel, y: CaretLabel) -> bool
+    ensures { result ≡ waiting (label_named x) (label_named y) }
+{
+    (x == CaretLabel::R) & (y == CaretLabel::R)
+}
 
 // The sum so far, without the columns R over R at its end, and the weight of these: it counts once another column is
 // behind them.
@@ -23,45 +37,30 @@ pub struct Tally {
     pub pending: u16,
 }
 
-// The weight of a column.
-fn weight(x: usize, y: usize) -> u8
-    requires x_bound { x < 5 }
-    requires y_bound { y < 5 }
-    ensures { result ≡ label_entry x y }
-{
-    TABLE1[x][y]
-}
-
-// Whether a column is R over R.
-fn both_right(x: usize, y: usize) -> bool
-    ensures { result ≡ both_right x y }
-{
-    (x == LABEL_R) & (y == LABEL_R)
-}
-
-// Columns that weigh so much: they wait, or count with what waits before them.
-fn join(t: Tally, weight: u16, waits: bool) -> Tally
-    requires { Room t weight waits }
-    ensures { result ≡ tallied t weight waits }
-{
-    if waits {
-        return Tally {
-            sum: t.sum,
-            pending: t.pending + weight,
-        };
+impl Tally {
+    // Columns that weigh so much: they wait, or count with what waits before them.
+    fn join(self, weight: u16, waits: bool) -> Tally
+        requires { Room self weight waits }
+        ensures { result ≡ tallied self weight waits }
+    {
+        if waits {
+            return Tally {
+                sum: self.sum,
+                pending: self.pending + weight,
+            };
+        }
+        Tally {
+            sum: self.sum + (self.pending + weight),
+            pending: 0,
+        }
     }
-    Tally {
-        sum: t.sum + (t.pending + weight),
-        pending: 0,
-    }
-}
 
-// So many columns more, all of x over y.
-pub fn add_columns(t: Tally, x: usize, y: usize, count: u16) -> Tally
-    requires x_bound { x < 5 }
-    requires y_bound { y < 5 }
-    requires room { Room t (label_entry x y * count) (both_right x y) }
-    ensures { result ≡ tallied t (label_entry x y * count) (both_right x y) }
-{
-    join(t, weight(x, y) as u16 * count, both_right(x, y))
+    // So many columns more, all of x over y.
+    pub fn add_columns(self, x: CaretLabel, y: CaretLabel, count: u16) -> Tally
+        requires { Room self (weighing (label_named x) (label_named y) count)
+            (waiting (label_named x) (label_named y)) }
+        ensures { result ≡ added self (label_named x) (label_named y) count }
+    {
+        self.join(weight(x, y) as u16 * count, both_right(x, y))
+    }
 }

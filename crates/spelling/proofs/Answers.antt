@@ -6,6 +6,7 @@ use Prim.Native.Nat.{ℕ, ◌<◌, ◌≤◌}
 use native.Mathlib.Omega.{arith}
 use lib.ListN.{length}
 use borrow.Author.Tests.{lt-ltb, le-ltb}
+use Rattle.std.specs.Prelude.{⊤, Result, Ok, Err}
 use Rattle.lists.specs.inside.Writes.{Wrote}
 use Rattle.lists.proofs.Writes.{wrote_same}
 use Rattle.group.specs.Bytes.{bytes_of}
@@ -13,12 +14,8 @@ use Rattle.group.specs.Forms.{b_side, a_side, Form, exponent}
 use Rattle.group.specs.Limits.{limit}
 use Rattle.group.proofs.Bytes.{bytes_length}
 use Rattle.refusals.specs.Outcomes.{accepted, refused, refusal}
-use Rattle.refusals.specs.inside.Verdicts.{refusal_in}
 use Rattle.refusals.specs.declared.Refusal.{Refusal}
 use Rattle.refusals.specs.declared.Refusal.TheVariants.{ShortBuffer, LongSpelling}
-use Rattle.refusals.specs.declared.Verdict.{Verdict}
-use Rattle.refusals.specs.declared.Verdict.TheVariants.{Accepted, Refused}
-use Rattle.refusals.specs.declared.Reply.TheVariants as Replies
 use Rattle.records.specs.Reading.{decode}
 use Rattle.records.specs.inside.Contracts.{Decoded}
 use Rattle.records.proofs.ClearedTables.{Cleared, Read, read_refused, read_accepted, within_levels, table_at}
@@ -32,11 +29,11 @@ use Rattle.spelling.proofs.Lengths.{spelt-length}
 use Rattle.spelling.proofs.Words.{spelling-runs}
 
 -- A refusal of the reader is passed on, and nothing was written.
-module _ {n : ℕ} {s z b a : List ℕ} {v : Verdict} {q : Refusal} (c : Cleared n z) (d : Decoded s z z b a v)
-    (e : v ≡ Refused q) (r : Refusal) (is : r ≡ refusal_in v) where
-  pub word_refused : {word : List ℕ} → Spelled s word word (Replies.Refused r)
+module _ {n : ℕ} {s z b a : List ℕ} {v : Result ⊤ Refusal} {q : Refusal} (c : Cleared n z) (d : Decoded s z z b a v)
+    (e : v ≡ Err q) where
+  pub word_refused : {word : List ℕ} → Spelled s word word (Err q)
   word_refused =
-      let refuses : decode s ≡ refusal r = read_refused c d e ∙ sym (ap refusal is) in
+      let refuses : decode s ≡ refusal q = read_refused c d e in
       record { are_bytes = d.are_bytes; result = rw refuses refl; bytes = rw refuses refl }
 
 -- The word of the tables is the spelling of the form.
@@ -66,10 +63,10 @@ module _ {n : ℕ} {s z b a : List ℕ} {f : Form} (c : Cleared n z) (r : Read s
       ∙ ap length table-spelling
 
 -- The tables of a record that is accepted, and the number k of letters of their word.
-module _ {n : ℕ} {s z b a word : List ℕ} {v : Verdict} (c : Cleared n z) (d : Decoded s z z b a v) (e : v ≡ Accepted)
+module _ {n : ℕ} {s z b a word : List ℕ} {v : Result ⊤ Refusal} (c : Cleared n z) (d : Decoded s z z b a v) (e : v ≡ (Ok tt))
     (k : ℕ) (counted : k ≡ table_letters b a) where
   -- 8 where the word has more letters than the limit.
-  pub word_long : limit < k → Spelled s word word (Replies.Refused LongSpelling)
+  pub word_long : limit < k → Spelled s word word (Err LongSpelling)
   word_long h =
       let f = read_accepted c d e in
       let long : limit < length (spelling f.0) = omega (arith, table-letters c f.1) in
@@ -77,7 +74,7 @@ module _ {n : ℕ} {s z b a word : List ℕ} {v : Verdict} (c : Cleared n z) (d 
       record { are_bytes = d.are_bytes; result = rw refuses refl; bytes = rw refuses refl }
 
   -- 7 where it has not, and the buffer is too short.
-  pub word_short : k ≤ limit → length word < k → Spelled s word word (Replies.Refused ShortBuffer)
+  pub word_short : k ≤ limit → length word < k → Spelled s word word (Err ShortBuffer)
   word_short h g =
       let f = read_accepted c d e in
       let few : length (spelling f.0) ≤ limit = omega (arith, table-letters c f.1) in
@@ -88,7 +85,7 @@ module _ {n : ℕ} {s z b a word : List ℕ} {v : Verdict} (c : Cleared n z) (d 
 
   -- Else the word is written.
   pub word_answer : {word' : List ℕ} {r : ℕ} → k ≤ limit → k ≤ length word
-      → Wrote (bytes_of (table_spelling b a)) word 0 word' r → Spelled s word word' (Replies.Number r)
+      → Wrote (bytes_of (table_spelling b a)) word 0 word' r → Spelled s word word' (Ok r)
   word_answer {word'} {r} h g w =
       let f = read_accepted c d e in
       let few : length (spelling f.0) ≤ limit = omega (arith, table-letters c f.1) in

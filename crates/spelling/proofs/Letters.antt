@@ -1,60 +1,37 @@
--- One letter written several times: a loop that writes it, byte by byte, and the bytes of a turn. Assumes nothing.
+-- One letter written several times, and the bytes of a turn. Assumes nothing.
 use mathlib.Core.Path.{◌≡◌, sym, ap, ◌∙◌}
-use mathlib.Core.List.{List, ◌++◌, append-nil}
-use Prim.Native.Nat.{ℕ, ◌+◌, ◌-◌, ◌<◌, ◌≤◌}
+use mathlib.Core.List.{List, ◌++◌, append-nil, append_assoc}
+use Prim.Native.Nat.{ℕ, ◌+◌, ◌-◌, ◌≤◌}
 use native.Mathlib.Omega.{arith}
-use lib.ListN.{length, set, replicate, length-replicate}
-use lib.Seq.{sets, length-sets}
+use lib.ListN.{length, replicate, take, drop, length-replicate, length-take, length-drop}
+use borrow.Rule.Slice.PartMut.{put_mid}
+use Rattle.std.proofs.lemmas.Slice.{put_mid-paste}
+use Rattle.std.proofs.lemmas.List.Edits.{paste_all, sets-eq}
 use Rattle.lists.specs.inside.Writes.{Wrote}
-use Rattle.lists.proofs.Writes.{sets-replicate}
 use Rattle.group.specs.Letters.{'a, 'A}
 use Rattle.group.specs.Bytes.{bytes_of}
 use Rattle.group.proofs.Bytes.{bytes_replicate}
 use Rattle.spelling.specs.inside.RunLetters.{turn}
 
--- The letter stands from `at` on up to i.
-pub record Lettered (entry : List ℕ) (at letter end : ℕ) (word : List ℕ) (i : ℕ) : Type 0 where
-  pub begun : at ≤ i
-  pub within : i ≤ end
-  pub holds : word ≡ sets entry at (replicate (i - at) letter)
-
--- At the start none is written.
-pub lettered_start : (entry : List ℕ) (at letter end : ℕ) → at ≤ end → Lettered entry at letter end entry at
-lettered_start entry at letter end h =
-    let none : 0 ≡ at - at = omega arith in
-    record { begun = omega arith; within = h; holds = ap (λ (k : ℕ). sets entry at (replicate k letter)) none }
-
-module _ {entry word : List ℕ} {at letter end i : ℕ} (p : Lettered entry at letter end word i) where
-  pub lettered_length : length word ≡ length entry
-  lettered_length = ap length p.holds ∙ length-sets entry at (replicate (i - at) letter)
-
-  -- One letter more.
-  pub lettered_more : i < end → Lettered entry at letter end (set word i letter) (i + 1)
-  lettered_more h = record {
-    begun = omega (arith, p.begun);
-    within = omega arith;
-    holds =
-        ap (λ (t : List ℕ). set t i letter) p.holds
-        ∙ ap (λ (k : ℕ). set (sets entry at (replicate (i - at) letter)) k letter) here
-        ∙ sets-replicate entry at (i - at) letter
-        ∙ ap (λ (k : ℕ). sets entry at (replicate k letter)) more;
-  }
-    where
-      here : i ≡ at + (i - at)
-      here = omega (arith, p.begun)
-
-      more : i - at + 1 ≡ i + 1 - at
-      more = omega (arith, p.begun)
-
-  -- All n letters are written.
-  pub lettered_done : (n : ℕ) → end ≡ at + n → end ≤ i → Wrote (replicate n letter) entry at word end
-  lettered_done n e h = record {
-    ends = e ∙ ap (λ (k : ℕ). at + k) (sym (length-replicate n letter));
-    holds = p.holds ∙ ap (λ (k : ℕ). sets entry at (replicate k letter)) all;
-  }
-    where
-      all : i - at ≡ n
-      all = omega (arith, p.within)
+-- A part of n bytes that was filled with a letter.
+pub filled_part : (n at letter : ℕ) (entry part : List ℕ) → at + n ≤ length entry
+    → part ≡ replicate (length (take (at + n - at) (drop at entry))) letter
+    → Wrote (replicate n letter) entry at (put_mid at (at + n - at) entry part) (at + n)
+filled_part n at letter entry part room is =
+    let filling : List ℕ = replicate n letter in
+    let many : length filling ≡ n = length-replicate {A = ℕ} n letter in
+    let size : at + n - at ≡ n = omega arith in
+    let whole : length (take (at + n - at) (drop at entry)) ≡ n = simp (length-take, length-drop) (omega arith) in
+    record {
+      ends = ap (λ (k : ℕ). at + k) (sym many);
+      holds =
+          put_mid-paste at (at + n - at) entry part filling n (is ∙ ap (λ (k : ℕ). replicate k letter) whole) (sym size)
+          (sym many)
+          ∙ paste_all entry at filling n (sym many)
+          ∙ ap (λ (k : ℕ). take at entry ++ (filling ++ drop (at + k) entry)) (sym many)
+          ∙ sym (append_assoc (take at entry) filling (drop (at + length filling) entry))
+          ∙ sym (sets-eq filling entry at (omega (arith, many)));
+    }
 
 -- The bytes of a turn: letters A where there are more of them, else letters a.
 pub turn-inverse : (m n : ℕ) → m ≤ n → replicate (n - m) 65 ≡ bytes_of (turn m n)

@@ -3,13 +3,13 @@
 --     spelled_in s n   the word of the bytes s, beside a buffer of n bytes, or what is refused
 --     Spelled         the contract of `record_to_word`
 -- Assumes nothing.
-use Rattle.std.specs.Prelude.{◌≡◌, cond, List, ℕ, length, ltb}
+use Rattle.std.specs.Prelude.{◌≡◌, cond, List, ℕ, length, ltb, Result}
 use Rattle.std.proofs.lemmas.List.Edits.{sets}
+use Rattle.refusals.specs.declared.Refusal.{Refusal}
 use Rattle.group.specs.Letters.{Word}
 use Rattle.group.specs.Bytes.{bytes_of}
 use Rattle.group.specs.Limits.{limit}
 use Rattle.refusals.specs.Outcomes.{Outcome, accepted, refused, after, then, valued, reply_of}
-use Rattle.refusals.specs.declared.Reply.{Reply}
 use Rattle.records.specs.Reading.{decode}
 use Rattle.fields.specs.Fields.{Bytes}
 use Rattle.spelling.specs.Spelling.{spelling}
@@ -24,7 +24,7 @@ spelled_in s n = then (decode s) (λ f. word_in n (spelling f))
 
 -- The word stands at the front of the buffer, and everything beyond is unchanged; the value is its number of letters.
 -- What is lent as a record are bytes.
-pub record Spelled (s word word' : List ℕ) (r : Reply) : Type 0 where
+pub record Spelled (s word word' : List ℕ) (r : Result ℕ Refusal) : Type 0 where
   pub are_bytes : Bytes s
   pub result : reply_of r ≡ valued length (spelled_in s (length word))
   pub bytes : word' ≡ after (spelled_in s (length word)) word (λ w. sets word 0 (bytes_of w))

@@ -1,9 +1,9 @@
 // The number of letters of a spelling: the speller taken through both tables, with nothing written.
+// Not one loop with `writing`: of a step as a parameter it would have to ask that its letters fit behind any so far.
 ghost use Rattle.std.specs.Prelude.{◌≡◌, ◌<◌, ◌^◌, length};
 ghost use Rattle.group.specs.Limits.{limit};
 ghost use Rattle.spelling.specs.inside.Steps.{behind_runs, rising_runs, falling_runs, table_letters};
 
-use super::speller;
 use super::speller::Speller;
 use refusals::{GeneratorIndex, LIMIT};
 
@@ -14,10 +14,8 @@ fn count_rising(b: &[u16], start: Speller) -> Speller
     ensures { result ≡ behind_runs start (rising_runs b.now) }
 {
     let mut state = start;
-    let mut k = 1;
-    while k <= LIMIT {
+    for k in 1..=LIMIT {
         state = state.power(GeneratorIndex(k as u16), b[k]);
-        k += 1;
     }
     state
 }
@@ -29,10 +27,8 @@ fn count_falling(a: &[u16], start: Speller) -> Speller
     ensures { result ≡ behind_runs start (falling_runs a.now) }
 {
     let mut state = start;
-    let mut k = LIMIT;
-    while 0 < k {
+    for k in (1..=LIMIT).rev() {
         state = state.power(GeneratorIndex(k as u16), a[k]);
-        k -= 1;
     }
     state
 }
@@ -44,5 +40,5 @@ pub fn count(b: &[u16], a: &[u16]) -> usize
 {
     let top = count_rising(b, Speller::new(b[0]));
     let last = count_falling(a, top);
-    last.count + speller::apart(last.due, a[0] as usize)
+    last.count + last.due.abs_diff(usize::from(a[0]))
 }

@@ -18,24 +18,13 @@ pub struct Speller {
     pub due: usize,
 }
 
-// How far two numbers are apart.
-pub fn apart(m: usize, n: usize) -> usize
-    ensures { result ≡ distance m n }
-{
-    if m < n { n - m } else { m - n }
-}
-
 // n times a letter from a place on; the answer is the place behind them.
 fn put_letters(word: &mut [u8], at: usize, letter: u8, n: usize) -> usize
     requires { at + n ≤ length word.old }
     ensures { Wrote (replicate n letter) word.old at word.new result }
 {
     let end = at + n;
-    let mut i = at;
-    while i < end {
-        word[i] = letter;
-        i += 1;
-    }
+    word[at..end].fill(letter);
     end
 }
 
@@ -57,7 +46,7 @@ impl Speller {
     {
         Self {
             count: 0,
-            due: e as usize,
+            due: usize::from(e),
         }
     }
 
@@ -70,9 +59,9 @@ impl Speller {
         if e == 0 {
             return self;
         }
-        let due = k.0 as usize - 1;
+        let due = usize::from(k.0) - 1;
         Self {
-            count: self.count + apart(self.due, due) + e as usize,
+            count: self.count + self.due.abs_diff(due) + usize::from(e),
             due,
         }
     }
@@ -87,10 +76,10 @@ impl Speller {
         if e == 0 {
             return self;
         }
-        let due = k.0 as usize - 1;
+        let due = usize::from(k.0) - 1;
         let at = put_turn(word, self.count, self.due, due);
         let letter = if inverse { b'B' } else { b'b' };
-        let count = put_letters(word, at, letter, e as usize);
+        let count = put_letters(word, at, letter, usize::from(e));
         Self { count, due }
     }
 }

@@ -17,10 +17,8 @@ fn write_rising(b: &[u16], start: Speller, word: &mut [u8]) -> Speller
     ensures { WroteRuns (rising_runs b.now) start word.old word.new result }
 {
     let mut state = start;
-    let mut k = 1;
-    while k <= LIMIT {
+    for k in 1..=LIMIT {
         state = state.write(GeneratorIndex(k as u16), b[k], false, word);
-        k += 1;
     }
     state
 }
@@ -32,10 +30,8 @@ fn write_falling(a: &[u16], start: Speller, word: &mut [u8]) -> Speller
     ensures { WroteRuns (falling_runs a.now) start word.old word.new result }
 {
     let mut state = start;
-    let mut k = LIMIT;
-    while 0 < k {
+    for k in (1..=LIMIT).rev() {
         state = state.write(GeneratorIndex(k as u16), a[k], true, word);
-        k -= 1;
     }
     state
 }
@@ -49,5 +45,5 @@ pub fn write(b: &[u16], a: &[u16], word: &mut [u8]) -> usize
 {
     let top = write_rising(b, Speller::new(b[0]), word);
     let last = write_falling(a, top, word);
-    speller::put_turn(word, last.count, last.due, a[0] as usize)
+    speller::put_turn(word, last.count, last.due, usize::from(a[0]))
 }

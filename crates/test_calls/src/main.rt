@@ -4,8 +4,9 @@
 // file `stdout` has what is expected.
 #![tactic(auto)]
 
-use cases::{counts, fields, parts};
-use receipts::OUTPUT;
+use crate::memory::Call;
+use crate::reading::Given;
+use cases::{counts, parts};
 
 mod both;
 mod memory;
@@ -31,43 +32,29 @@ const GIVEN: usize = 200000;
 const OTHER: usize = 4200;
 
 // The fields of a line, and the answer; none to a heading.
-fn answer(line: &[u8], given: &mut [u8; GIVEN], out: &mut [u8; OUTPUT]) {
-    let mut other = [0u8; OTHER];
-    let mut at = NAME;
-    let n = reading::bytes(line, &mut at, given);
-    let s = reading::sizes_at(line, &mut at);
-    let m = reading::bytes(line, &mut at, &mut other);
-    let s2 = reading::sizes_at(line, &mut at);
-    let bytes = parts::front(given, n);
-    let kind = parts::byte(line, 0);
-    match kind {
-        b'#' => {}
-        b'g' => spheres::spheres(),
-        b'l' => both::lengths(bytes),
-        b'm' => tables::measure(bytes, s),
-        b'r' => runs::receipts(bytes, s, m, out),
-        _ => memory::lend(kind, bytes, s, parts::front(&other, m), s2, out),
+fn answer(line: &[u8]) {
+    let mut first = [0u8; GIVEN];
+    let mut second = [0u8; OTHER];
+    let row = parts::behind(line, NAME);
+    let given = Given::read(row, 1, &mut first);
+    let other = Given::read(row, 5, &mut second);
+    match line {
+        [b'#', ..] => {}
+        [b'g', ..] => spheres::print(),
+        [b'l', ..] => both::lengths(given.bytes),
+        [b'm', ..] => tables::measure(given),
+        [b'r', ..] => runs::receipts(given, other.bytes.len()),
+        _ => memory::lend(Call::of(line), given, other),
     }
 }
 
-// A line and its answer.
-fn take_line(line: &[u8]) {
-    let mut given = [0u8; GIVEN];
-    let mut out = [parts::BYTE; OUTPUT];
-    counts::print_text(line);
-    answer(line, &mut given, &mut out);
-    counts::print_text(b"\n");
-}
-
-// All lines.
+// All lines, each with its answer.
 fn run(input: &mut [u8; INPUT]) {
     let n = io::read_full(STDIN, input);
-    let text = parts::front(input, n);
-    let mut at = 0;
-    while at < text.len() {
-        let end = fields::line_end(text, at);
-        take_line(&text[at..end]);
-        at = end;
+    for line in parts::front(input, n).split_inclusive(|&x| x == b'\n') {
+        counts::print_text(line);
+        answer(line);
+        counts::print_text(b"\n");
     }
 }
 

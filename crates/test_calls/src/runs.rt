@@ -1,59 +1,82 @@
 // The receipts of an input that comes in parts.
 use crate::printed;
-use cases::fields::Sizes;
+use crate::reading::Given;
+use cases::parts::BYTE;
 use cases::{counts, parts};
-use receipts::{LINE, Served, Serving};
-use refusals::{Refusal, Reply};
-use std::num::wrapping_add_usize;
+use receipts::{LINE, OUTPUT, Served};
+use refusals::Refusal;
+use thompson::Answer;
 
-// A refusal, and what is in the output buffer.
-fn refused(r: Refusal, out: &[u8]) {
-    printed::answer(printed::refused(r));
-    printed::buffer(out);
-    counts::print_text(b"\n");
+// The bytes of the line that has begun, the output buffer with how much of it is lent, and what was served last.
+#[derive(Clone, Copy)]
+struct Run {
+    line: [u8; LINE],
+    out: [u8; OUTPUT],
+    lent: usize,
+    served: Served,
 }
 
-// What a call put at the front of the output buffer.
-fn show(w: Reply, out: &[u8]) {
-    match w {
-        Reply::Number(n) => counts::print_text(parts::front(out, n)),
-        Reply::Refused(r) => refused(r, out),
+impl Run {
+    // A refusal, and what is in the output buffer.
+    fn refuse(&self, r: Refusal) {
+        printed::answer(Answer::from(r));
+        printed::buffer(&self.out);
+        counts::print_text(b"\n");
+    }
+
+    // What a call put at the front of the output buffer.
+    fn show(&self, answer: Result<usize, Refusal>) {
+        match answer {
+            Ok(n) => counts::print_text(parts::front(&self.out, n)),
+            Err(r) => self.refuse(r),
+        }
+    }
+
+    // The header.
+    fn begin(&mut self) {
+        let answer = receipts::begin(parts::front_mut(&mut self.out, self.lent));
+        self.show(answer);
+    }
+
+    // The receipts of a part.
+    fn take(&mut self, part: &[u8]) {
+        let Served { number, held, .. } = self.served;
+        let out = parts::front_mut(&mut self.out, self.lent);
+        match receipts::serve(part, number, held, &mut self.line, out) {
+            Ok(served) => {
+                counts::print_text(parts::front(&self.out, served.written));
+                self.served = served;
+            }
+            Err(r) => self.refuse(r),
+        }
+    }
+
+    // The receipt of an unended last line.
+    fn finish(&mut self) {
+        let Served { number, held, .. } = self.served;
+        let out = parts::front_mut(&mut self.out, self.lent);
+        let answer = receipts::finish(number, held, &self.line, out);
+        self.show(answer);
     }
 }
 
-// The receipts of a part.
-fn take_part(part: &[u8], s: Served, line: &mut [u8; LINE], out: &mut [u8], size: usize) -> Served {
-    let serving = receipts::serve(part, s.number, s.held, line, parts::front_mut(out, size));
-    match serving {
-        Serving::Taken(t) => {
-            counts::print_text(parts::front(out, t.written));
-            t
-        }
-        Serving::Refused(r) => {
-            refused(r, out);
-            s
-        }
-    }
-}
-
-// The receipts of an input in parts of s.b bytes, with s.out bytes of the output buffer lent; at the start s.a is the
-// number of the line, and so many of its bytes are held.
-pub fn receipts(input: &[u8], s: Sizes, held: usize, out: &mut [u8]) {
-    let mut line = [parts::BYTE; LINE];
-    let mut m = Served {
-        number: s.a as u64,
-        held,
-        written: 0,
+// The receipts of an input in parts of as many bytes as the first size says, with so much of the output buffer lent as
+// the third says; at the start the second is the number of the line, and so many of its bytes are held.
+pub fn receipts(input: Given, held: usize) {
+    let size = input.lent.b;
+    let mut run = Run {
+        line: [BYTE; LINE],
+        out: [BYTE; OUTPUT],
+        lent: input.lent.out,
+        served: Served {
+            number: input.lent.a as u64,
+            held,
+            written: 0,
+        },
     };
-    show(receipts::begin(parts::front_mut(out, s.out)), out);
-    let mut at = 0;
-    let mut left = input.len();
-    while left > 0 && at < input.len() {
-        let part = parts::front(parts::behind(input, at), s.b);
-        m = take_part(part, m, &mut line, out, s.out);
-        at = wrapping_add_usize(at, s.b);
-        left -= 1;
+    run.begin();
+    for part in input.bytes.chunks(size.max(1)) {
+        run.take(parts::front(part, size));
     }
-    let lent = parts::front_mut(out, s.out);
-    show(receipts::finish(m.number, m.held, &line, lent), out);
+    run.finish();
 }

@@ -1,50 +1,36 @@
 // The length of a pair by its tables, which need not be those of a record.
-ghost use Rattle.std.specs.Prelude.{◌<◌};
-
-use cases::fields::Sizes;
+use crate::reading::Given;
 use cases::{counts, parts};
-use lengths::Length;
-use std::num::wrapping_add_usize;
 
 // The entries of a table, more than a pair of MAX_CARETS carets has.
 const ENTRIES: usize = 8200;
 
-// Entry i of a table: two bytes, the high one first.
-fn entry(bytes: &[u8], i: usize) -> u16
-    requires { i < 8200 }
-{
-    parts::byte(bytes, 2 * i) as u16 * 256 + parts::byte(bytes, 2 * i + 1) as u16
-}
-
-// The entries of a table, 0 behind the last.
+// The entries of a table, each two bytes, the high one first; 0 behind the last.
 fn read(bytes: &[u8], table: &mut [u16; ENTRIES]) {
-    let mut i = 0;
-    while i < ENTRIES {
-        table[i] = entry(bytes, i);
-        i += 1;
+    for (entry, pair) in table.iter_mut().zip(bytes.chunks(2)) {
+        *entry = u16::from_be_bytes([parts::byte(pair, 0), parts::byte(pair, 1)]);
     }
 }
 
 // A length, or that the tables are unfit.
-fn print_length(length: Length) {
+fn print_length(length: Option<usize>) {
     match length {
-        Length::Letters(n) => counts::print_number(b"", n as u64),
-        Length::Unfit => counts::print_text(b"unfit"),
+        Some(n) => counts::print_number(b"", n as u64),
+        None => counts::print_text(b"unfit"),
     }
 }
 
-// The length of the smallest pair with the exponents of s.b entries of one table and s.a of another, by both engines.
-fn length(b: &[u16; ENTRIES], a: &[u16; ENTRIES], s: Sizes) {
-    print_length(lengths::pair_length(parts::entries(b, s.b), parts::entries(a, s.a)));
-    counts::print_text(b" ");
-    print_length(scans::scan_length(parts::entries(b, s.b), parts::entries(a, s.a)));
-}
-
-// The same from their bytes; those of the second table follow those of the first.
-pub fn measure(bytes: &[u8], s: Sizes) {
+// The length of the smallest pair by both engines, from the bytes of its tables, whose entries the first two sizes
+// count; those of the second table follow those of the first.
+pub fn measure(given: Given) {
     let mut b = [0u16; ENTRIES];
     let mut a = [0u16; ENTRIES];
-    read(bytes, &mut b);
-    read(parts::behind(bytes, wrapping_add_usize(s.b, s.b)), &mut a);
-    length(&b, &a, s);
+    let size = given.lent.b;
+    read(given.bytes, &mut b);
+    read(parts::behind(given.bytes, size.wrapping_mul(2)), &mut a);
+    let b = parts::front(&b, size);
+    let a = parts::front(&a, given.lent.a);
+    print_length(lengths::pair_length(b, a));
+    counts::print_text(b" ");
+    print_length(scans::scan_length(b, a));
 }

@@ -1,44 +1,28 @@
 // Pictures of records.
-use crate::record_lines;
+use crate::record_lines::{RECORD, text};
 use cases::counts::print_text;
 use cases::parts;
-use commands::{ANSWER, ROOM};
-use drawings::{Drawn, PICTURE};
+use commands::{ANSWER, Rooms};
+use drawings::PICTURE;
 
-// The picture of a record, or what is said in place of it.
+// The picture of a record from the line behind its case on, or what is said in place of it.
 fn print_record(characters: bool, record: &[u8]) {
-    let mut first = [0u8; ROOM];
-    let mut second = [0u8; ROOM];
+    let mut rooms = Rooms::new();
     let mut picture = [0u8; PICTURE];
     let mut out = [0u8; ANSWER];
-    let drawn = drawings::draw(
-        characters,
-        record,
-        &mut first,
-        &mut second,
-        &mut picture,
-        &mut out,
-    );
+    let drawn = drawings::draw(characters, record, &mut rooms, &mut picture, &mut out);
     match drawn {
-        Drawn::Picture(n) => print_picture(&picture, n),
-        Drawn::Refused(answer) => print_text(record_lines::text(&out, answer)),
+        Ok(n) => {
+            print_text(b"\n");
+            print_text(parts::front(&picture, n));
+        }
+        Err(answer) => print_text(text(&out, answer)),
     }
-}
-
-// A picture, from the line behind its case on.
-fn print_picture(picture: &[u8; PICTURE], n: usize) {
-    print_text(b"\n");
-    print_text(parts::front(picture, n));
 }
 
 // The picture of a record in hexadecimal.
 pub fn print(characters: bool, chars: &[u8]) {
-    let mut bytes = [0u8; record_lines::RECORD];
+    let mut bytes = [0u8; RECORD];
     let amid = hexadecimal::read(chars, &mut bytes, hexadecimal::begin());
-    print_front(characters, &bytes, amid.held);
-}
-
-// The picture of the first n bytes.
-fn print_front(characters: bool, bytes: &[u8; record_lines::RECORD], n: usize) {
-    print_record(characters, parts::front(bytes, n));
+    print_record(characters, parts::front(&bytes, amid.held));
 }

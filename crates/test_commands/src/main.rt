@@ -16,28 +16,22 @@ const STDIN: i32 = 0;
 // The most bytes of all lines.
 const INPUT: usize = 16384;
 
-// A line with its answer.
+// A line with its answer; a heading has none.
 fn print_case(line: &[u8]) {
     print_text(line);
-    if parts::byte(line, 0) != b'#' {
-        print_text(b": ");
-        word_lines::print(
-            fields::field(line, 0),
-            parts::behind(line, fields::field(line, 0).len() % INPUT + 1),
-        );
-    } else {
+    if line.starts_with(b"#") {
         print_text(b"\n");
+        return;
     }
+    print_text(b": ");
+    let word = fields::field(line, 0);
+    word_lines::print(word, parts::behind(line, word.len().wrapping_add(1)));
 }
 
 // The lines of a text; the ends of lines are left out.
 fn run(text: &[u8]) {
-    let mut at = 0;
-    while at < text.len() {
-        let end = fields::line_end(text, at);
-        let line = &text[at..end];
-        print_case(parts::front(line, lines::line_end(line, 0)));
-        at = end;
+    for line in text.split_inclusive(|&x| x == b'\n') {
+        print_case(line.strip_suffix(b"\n").unwrap_or(line));
     }
 }
 

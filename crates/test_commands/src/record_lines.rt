@@ -1,8 +1,7 @@
 // Questions about records in hexadecimal.
 use cases::counts::print_text;
 use cases::parts;
-use commands::{ANSWER, Answer, Question, ROOM, reading};
-use hexadecimal::NONE;
+use commands::{ANSWER, Answer, Question, Rooms, reading};
 
 // The most bytes of a record.
 pub const RECORD: usize = 256;
@@ -24,13 +23,20 @@ pub fn text(out: &[u8; ANSWER], answer: Answer) -> &[u8] {
     parts::front(out, answer.bytes)
 }
 
-// The answer to a question about the first n bytes, where it is not what was said of their hexadecimal.
-fn print_other(question: Question, bytes: &[u8; RECORD], n: usize, said: &[u8]) {
-    let mut first = [0u8; ROOM];
-    let mut second = [0u8; ROOM];
+// What a call says at the front of a buffer.
+pub fn print_said<F: FnOnce(&mut [u8; ANSWER]) -> Answer>(call: F)
+    requires { F.IsAlwaysCallable call }
+{
     let mut out = [0u8; ANSWER];
-    let record = parts::front(bytes, n);
-    let answer = commands::ask(question, record, &mut first, &mut second, &mut out);
+    let answer = call(&mut out);
+    print_text(text(&out, answer));
+}
+
+// The answer to a question about a record, where it is not what was said of its hexadecimal.
+fn print_other(question: Question, record: &[u8], said: &[u8]) {
+    let mut rooms = Rooms::new();
+    let mut out = [0u8; ANSWER];
+    let answer = commands::ask(question, record, &mut rooms, &mut out);
     if text(&out, answer) != said {
         print_text(b"of its bytes: ");
         print_text(text(&out, answer));
@@ -41,19 +47,12 @@ fn print_other(question: Question, bytes: &[u8; RECORD], n: usize, said: &[u8]) 
 pub fn print(word: &[u8], chars: &[u8]) {
     let mut bytes = [0u8; RECORD];
     let amid = hexadecimal::read(chars, &mut bytes, hexadecimal::begin());
-    let mut first = [0u8; ROOM];
-    let mut second = [0u8; ROOM];
+    let mut rooms = Rooms::new();
     let mut out = [0u8; ANSWER];
-    let answer = reading::ask_read(
-        question(word),
-        &bytes,
-        amid,
-        &mut first,
-        &mut second,
-        &mut out,
-    );
-    print_text(text(&out, answer));
-    if !amid.stray && amid.high == NONE {
-        print_other(question(word), &bytes, amid.held, text(&out, answer));
+    let answer = reading::ask_read(question(word), &bytes, amid, &mut rooms, &mut out);
+    let said = text(&out, answer);
+    print_text(said);
+    if !amid.stray && amid.high.is_none() {
+        print_other(question(word), parts::front(&bytes, amid.held), said);
     }
 }

@@ -1,75 +1,42 @@
 // Words, alone and two of them.
+use crate::record_lines::print_said;
 use crate::{drawn, record_lines};
-use cases::counts::print_text;
-use cases::fields;
-use commands::{ANSWER, ROOM, TABLE, comparing, sending};
+use cases::fields::field;
+use commands::{Lent, comparing, sending};
 
-// The record of a word or a text, or its item.
-fn print_sent(list: bool, line: &[u8]) {
-    let mut b = [0u16; TABLE];
-    let mut a = [0u16; TABLE];
-    let mut record = [0u8; ROOM];
-    let mut out = [0u8; ANSWER];
-    let answer = if list {
-        sending::list(line, &mut b, &mut a, &mut record, &mut out)
-    } else {
-        sending::send(line, &mut b, &mut a, &mut record, &mut out)
-    };
-    print_text(record_lines::text(&out, answer));
+// The record of a word or a text.
+fn print_record(line: &[u8]) {
+    let mut lent = Lent::new();
+    print_said(|out| sending::send(line, &mut lent, out));
+}
+
+// The item of a word.
+fn print_item(line: &[u8]) {
+    let mut lent = Lent::new();
+    print_said(|out| sending::list(line, &mut lent, out));
 }
 
 // Two words on a line.
 fn print_line(line: &[u8]) {
-    let mut b1 = [0u16; TABLE];
-    let mut a1 = [0u16; TABLE];
-    let mut record1 = [0u8; ROOM];
-    let mut b2 = [0u16; TABLE];
-    let mut a2 = [0u16; TABLE];
-    let mut record2 = [0u8; ROOM];
-    let mut out = [0u8; ANSWER];
-    let answer = comparing::compare_line(
-        line,
-        &mut b1,
-        &mut a1,
-        &mut record1,
-        &mut b2,
-        &mut a2,
-        &mut record2,
-        &mut out,
-    );
-    print_text(record_lines::text(&out, answer));
+    let mut first = Lent::new();
+    let mut second = Lent::new();
+    print_said(|out| comparing::compare_line(line, &mut first, &mut second, out));
 }
 
 // Two words apart.
 fn print_two(word1: &[u8], word2: &[u8]) {
-    let mut b1 = [0u16; TABLE];
-    let mut a1 = [0u16; TABLE];
-    let mut record1 = [0u8; ROOM];
-    let mut b2 = [0u16; TABLE];
-    let mut a2 = [0u16; TABLE];
-    let mut record2 = [0u8; ROOM];
-    let mut out = [0u8; ANSWER];
-    let answer = comparing::compare(
-        word1,
-        word2,
-        &mut b1,
-        &mut a1,
-        &mut record1,
-        &mut b2,
-        &mut a2,
-        &mut record2,
-        &mut out,
-    );
-    print_text(record_lines::text(&out, answer));
+    let mut first = Lent::new();
+    let mut second = Lent::new();
+    print_said(|out| comparing::compare(word1, word2, &mut first, &mut second, out));
 }
 
 // The answer of a word of the command to its argument.
 pub fn print(word: &[u8], argument: &[u8]) {
     match word {
-        b"record" => print_sent(false, argument),
-        b"list" => print_sent(true, argument),
+        b"record" => print_record(argument),
+        b"list" => print_item(argument),
         b"same" => print_line(argument),
-        b"two" => print_two(fields::field(argument, 0), fields::field(argument, 1)),
+        b"two" => print_two(field(argument, 0), field(argument, 1)),
         b"draw" => drawn::print(false, argument),
         b"draw-text" => drawn::print(true, argument),
         _ => record_lines::print(word, argument),

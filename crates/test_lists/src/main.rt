@@ -5,11 +5,11 @@
 #![tactic(auto)]
 
 use cases::counts::Counts;
-use cases::{counts, fields, parts};
+use cases::{fields, parts};
 
 mod by_word;
+mod memory;
 mod rows;
-mod tables;
 
 // The number of standard input.
 const STDIN: i32 = 0;
@@ -19,37 +19,43 @@ const INPUT: usize = 524288;
 
 const LIST: usize = 12400;
 
-// Whether a row is one of a kind: by its first letter, or `w`, an accepted list.
-fn is_of(line: &[u8], kind: u8) -> bool {
-    if kind == b'w' {
-        return rows::accepted(line);
-    }
-    parts::byte(line, 0) == kind
+// What is tried: the example vectors, the traps, or each accepted list beside one call a word.
+#[derive(Clone, Copy)]
+enum Kind {
+    Vector,
+    Trap,
+    EachWord,
 }
 
-// Whether a row is right.
-fn right(line: &[u8], kind: u8) -> bool {
-    let mut bytes = [0u8; LIST];
-    let n = fields::bytes(fields::field(line, 1), &mut bytes);
-    rows::right(line, parts::front(&bytes, n), kind == b'w')
-}
-
-// The counts after a line; a line of another kind adds nothing.
-fn after_line(line: &[u8], kind: u8, c: Counts) -> Counts {
-    if !is_of(line, kind) {
-        return c;
+impl Kind {
+    // Whether a row is one of the kind.
+    fn has(self, line: &[u8]) -> bool {
+        match self {
+            Kind::Vector => line.starts_with(b"l"),
+            Kind::Trap => line.starts_with(b"t"),
+            Kind::EachWord => rows::is_accepted(line),
+        }
     }
-    counts::after(c, right(line, kind), line)
+
+    // Whether a row of the kind is right.
+    fn is_right(self, line: &[u8]) -> bool {
+        let mut bytes = [0u8; LIST];
+        let n = fields::bytes(fields::field(line, 1), &mut bytes);
+        let list = parts::front(&bytes, n);
+        match self {
+            Kind::Vector | Kind::Trap => rows::is_as_told(line, list),
+            Kind::EachWord => rows::is_as_each_word(line, list),
+        }
+    }
 }
 
 // The rows of a kind, and how many of them are right.
-fn lines(text: &[u8], kind: u8) -> Counts {
-    let mut c = Counts { right: 0, all: 0 };
-    let mut at = 0;
-    while at < text.len() {
-        let end = fields::line_end(text, at);
-        c = after_line(&text[at..end], kind, c);
-        at = end;
+fn lines(text: &[u8], kind: Kind) -> Counts {
+    let mut c = Counts::default();
+    for line in text.split_inclusive(|&x| x == b'\n') {
+        if kind.has(line) {
+            c = c.after(kind.is_right(line), line);
+        }
     }
     c
 }
@@ -58,9 +64,9 @@ fn lines(text: &[u8], kind: u8) -> Counts {
 fn run(input: &mut [u8; INPUT]) {
     let n = io::read_full(STDIN, input);
     let text = parts::front(input, n);
-    counts::print(lines(text, b'l'), b"vectors");
-    counts::print(lines(text, b't'), b"traps");
-    counts::print(lines(text, b'w'), b"lists word by word");
+    lines(text, Kind::Vector).print(b"vectors");
+    lines(text, Kind::Trap).print(b"traps");
+    lines(text, Kind::EachWord).print(b"lists word by word");
 }
 
 fn main() {

@@ -5,9 +5,10 @@
 #![tactic(auto)]
 
 use cases::counts::Counts;
-use cases::{counts, fields, parts};
+use cases::parts;
 
 mod bound;
+mod calls;
 mod rows;
 mod values;
 
@@ -20,27 +21,40 @@ const INPUT: usize = 163840;
 // The bytes in front of the call's name in a trap.
 const TRAP: usize = 5;
 
-// The counts after a line; a heading and a line of the other kind add nothing.
-fn after_line(line: &[u8], traps: bool, c: Counts) -> Counts {
-    let kind = parts::byte(line, 0);
-    if kind == b'#' {
-        return c;
+// What a line is.
+#[derive(Clone, Copy, PartialEq, Eq)]
+enum Kind {
+    Heading,
+    Vector,
+    Trap,
+}
+
+impl Kind {
+    // The kind of a line.
+    fn of(line: &[u8]) -> Kind {
+        match line {
+            [b'#', ..] => Kind::Heading,
+            [b't', ..] => Kind::Trap,
+            _ => Kind::Vector,
+        }
     }
-    if (kind == b't') != traps {
-        return c;
+
+    // The row of a line of this kind.
+    fn row(self, line: &[u8]) -> &[u8] {
+        match self {
+            Kind::Trap => parts::behind(line, TRAP),
+            _ => line,
+        }
     }
-    let start = if traps { TRAP } else { 0 };
-    counts::after(c, rows::right(parts::behind(line, start)), line)
 }
 
 // The rows of a kind, and how many of them are right.
-fn lines(text: &[u8], traps: bool) -> Counts {
-    let mut c = Counts { right: 0, all: 0 };
-    let mut at = 0;
-    while at < text.len() {
-        let end = fields::line_end(text, at);
-        c = after_line(&text[at..end], traps, c);
-        at = end;
+fn lines(text: &[u8], kind: Kind) -> Counts {
+    let mut c = Counts::default();
+    for line in text.split_inclusive(|&x| x == b'\n') {
+        if Kind::of(line) == kind {
+            c = c.after(rows::right(kind.row(line)), line);
+        }
     }
     c
 }
@@ -49,10 +63,10 @@ fn lines(text: &[u8], traps: bool) -> Counts {
 fn run(input: &mut [u8; INPUT]) {
     let n = io::read_full(STDIN, input);
     let text = parts::front(input, n);
-    counts::print(lines(text, false), b"vectors");
-    counts::print(lines(text, true), b"traps");
-    let comb = bound::after(Counts { right: 0, all: 0 }, true);
-    counts::print(bound::after(comb, false), b"at the bound");
+    lines(text, Kind::Vector).print(b"vectors");
+    lines(text, Kind::Trap).print(b"traps");
+    let comb = bound::after(Counts::default(), bound::Kind::Comb);
+    bound::after(comb, bound::Kind::Spine).print(b"at the bound");
 }
 
 fn main() {

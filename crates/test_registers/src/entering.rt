@@ -1,12 +1,11 @@
 // A case: a word is entered, and everything that was lent is compared afterwards.
-use crate::answers::Told;
-use crate::calling::{RECORD, TABLE};
-use crate::{answers, calling};
-use cases::fields::{Sizes, field};
+use crate::answers::{Refused, Told};
+use crate::calling;
+use crate::calling::{Filing, Memory};
+use cases::fields::field;
 use cases::parts::{BYTE, ENTRY};
 use cases::{fields, parts};
-use std::num::wrapping_add_usize;
-use updates::Entered;
+use updates::{Account, Entered};
 
 // The most letters of a word, and bytes of a register.
 const LETTERS: usize = 64;
@@ -15,92 +14,61 @@ const REGISTER: usize = 4096;
 
 // What a line tells from field 8 on: `new NUMBER ..`, `old NUMBER ..` or `refused NUMBER PLACE`. The account is that of
 // the holder who files, in the register as it is left.
-fn expected(line: &[u8], register: &[u8]) -> Told {
-    let kind = parts::byte(field(line, 8), 0);
+fn expected(line: &[u8], holder: u16, register: &[u8]) -> Option<Told> {
     let number = fields::number(field(line, 9));
-    if kind == b'r' {
-        return answers::refused(number, fields::number(field(line, 10)));
-    }
-    let holder = fields::holder(field(line, 5));
-    answers::entry(kind, number, holder, calling::live_of(register, holder))
-}
-
-// The call, with so much of the memory lent.
-fn enter(
-    word: &[u8],
-    s: Sizes,
-    b: &mut [u16],
-    a: &mut [u16],
-    record: &mut [u8],
-    holder: u16,
-    register: &mut [u8],
-) -> Entered {
-    let b_table = parts::entries_mut(b, s.b);
-    let a_table = parts::entries_mut(a, s.a);
-    let buffer = parts::front_mut(record, s.out);
-    updates::enter_word(word, b_table, a_table, buffer, holder, register)
-}
-
-// Whether the record buffer is as told: the record at its front, or on a refusal all of it as it was.
-fn record_right(line: &[u8], told: Told, record: &[u8; RECORD]) -> bool {
-    if told.kind == b'r' {
-        return parts::bytes_kept(record, 0);
-    }
-    fields::leads(field(line, 10), record)
-}
-
-// Whether a table is as it was: all of it on a refusal, else behind the entries for so many letters.
-fn table_right(told: Told, letters: usize, table: &[u16; TABLE]) -> bool {
-    let n = if told.kind == b'r' {
-        0
-    } else {
-        wrapping_add_usize(letters, 1)
+    let account = Account {
+        holder,
+        live: calling::live_of(register, holder),
     };
-    parts::entries_kept(table, n)
+    match field(line, 8) {
+        b"new" => Some(Ok(Entered::New(u32::try_from(number).ok()?, account))),
+        b"old" => Some(Ok(Entered::Present(u32::try_from(number).ok()?, account))),
+        b"refused" => Some(Err(Refused {
+            number,
+            place: fields::number(field(line, 10)),
+        })),
+        _ => None,
+    }
 }
 
-// Whether the register is as told; on a refusal it is as it was.
-fn register_right(line: &[u8], told: Told, register: &[u8]) -> bool {
-    let text = if told.kind == b'r' {
-        field(line, 6)
-    } else {
-        field(line, 11)
-    };
-    fields::spells(text, register)
+// Whether the memory and the register are as a refusal leaves them: as they were.
+fn is_kept(line: &[u8], memory: &Memory, register: &[u8]) -> bool {
+    *memory == Memory::of(ENTRY, BYTE) && fields::spells(field(line, 6), register)
+}
+
+// Whether the memory and the register are as an entry leaves them: the record at the front of its buffer, and each
+// table as it was behind the entries for so many letters.
+fn is_written(line: &[u8], letters: usize, memory: &Memory, register: &[u8]) -> bool {
+    let n = letters.wrapping_add(1);
+    parts::kept(&memory.b, n, ENTRY)
+        && parts::kept(&memory.a, n, ENTRY)
+        && fields::leads(field(line, 10), &memory.record)
+        && fields::spells(field(line, 11), register)
 }
 
 // Whether a filing of this word into this register is as the line tells.
-fn filed(line: &[u8], word: &[u8], register: &mut [u8]) -> bool {
-    let mut b = [ENTRY; TABLE];
-    let mut a = [ENTRY; TABLE];
-    let mut record = [BYTE; RECORD];
-    let holder = fields::holder(field(line, 5));
-    let entered = enter(
-        word,
-        fields::lent(line),
-        &mut b,
-        &mut a,
-        &mut record,
-        holder,
-        register,
-    );
-    let told = expected(line, register);
-    answers::same(answers::of(entered), told)
-        && table_right(told, word.len(), &b)
-        && table_right(told, word.len(), &a)
-        && record_right(line, told, &record)
-        && register_right(line, told, register)
+fn is_filed(line: &[u8], word: &[u8], register: &mut [u8]) -> bool {
+    let filing = Filing::of(line, word);
+    let mut memory = Memory::of(ENTRY, BYTE);
+    let entered = memory.enter(filing, register);
+    if expected(line, filing.holder, register) != Some(entered) {
+        return false;
+    }
+    match entered {
+        Ok(_) => is_written(line, word.len(), &memory, register),
+        Err(_) => is_kept(line, &memory, register),
+    }
 }
 
 // Whether a case is right.
-pub fn right(line: &[u8]) -> bool {
+pub fn is_right(line: &[u8]) -> bool {
     let mut word = [0u8; LETTERS];
     let mut register = [BYTE; REGISTER];
     let n = fields::bytes(field(line, 1), &mut word);
     let size = fields::bytes(field(line, 6), &mut register);
-    filed(
+    is_filed(
         line,
         parts::front(&word, n),
         parts::front_mut(&mut register, size),
-    ) && parts::bytes_kept(&register, size)
+    ) && parts::kept(&register, size, BYTE)
 }

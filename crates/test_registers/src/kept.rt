@@ -1,62 +1,81 @@
-// A plain list of holders and records, in the order in which they were kept: each in a slot, the two bytes of the
-// holder first, then how many bytes the record has.
+// A plain list of entries in the order in which they were kept, each with its holder and its record.
 use cases::parts;
 
-// The bytes of a slot, and of a list of 128.
-const SLOT: usize = 64;
+// The most entries, and bytes of a record.
+const ENTRIES: usize = 128;
 
-pub const LIST: usize = 128 * SLOT;
+const RECORD: usize = 61;
 
-// A byte of a slot.
-fn byte(list: &[u8], i: usize, k: usize) -> u8 {
-    parts::byte(list, i % 128 * SLOT + k % SLOT)
+// An entry, and how many bytes its record has.
+#[derive(Clone, Copy)]
+struct Entry {
+    holder: u16,
+    size: usize,
+    bytes: [u8; RECORD],
 }
 
-// The record in a slot.
-fn record(list: &[u8], i: usize) -> &[u8] {
-    parts::front(
-        parts::behind(list, i % 128 * SLOT + 3),
-        byte(list, i, 2) as usize,
-    )
+impl Entry {
+    // The record.
+    fn record(&self) -> &[u8] {
+        parts::front(&self.bytes, self.size)
+    }
 }
 
-// The place of a record among the first `count`, counted from 1, or 0.
-pub fn find(list: &[u8], count: usize, bytes: &[u8]) -> usize {
-    let mut i = 0;
-    while i < count {
-        if record(list, i) == bytes {
-            return i + 1;
+// The entries, and how many have been kept.
+#[derive(Clone, Copy)]
+pub struct List {
+    entries: [Entry; ENTRIES],
+    count: u32,
+}
+
+impl List {
+    // No entry.
+    pub fn new() -> List {
+        let none = Entry {
+            holder: 0,
+            size: 0,
+            bytes: [0; RECORD],
+        };
+        List {
+            entries: [none; ENTRIES],
+            count: 0,
         }
-        i += 1;
     }
-    0
-}
 
-// 1 where slot i has the holder.
-fn one(list: &[u8], i: usize, holder: u16) -> u64 {
-    if byte(list, i, 0) as u16 == holder / 256 && byte(list, i, 1) as u16 == holder % 256 {
-        1
-    } else {
-        0
+    // How many entries there are.
+    pub fn count(&self) -> u32 {
+        self.count
     }
-}
 
-// How many of the first `count` have the holder.
-pub fn live(list: &[u8], count: usize, holder: u16) -> u64 {
-    let mut sum = 0;
-    let mut i = 0;
-    while i < count {
-        sum = std::num::wrapping_add_u64(sum, one(list, i, holder));
-        i += 1;
+    // The number of the entry with a record, counted from 1.
+    pub fn find(&self, record: &[u8]) -> Option<u32> {
+        let kept = parts::front(&self.entries, self.count as usize);
+        for (number, entry) in (1..).zip(kept) {
+            if entry.record() == record {
+                return Some(number);
+            }
+        }
+        None
     }
-    sum
-}
 
-// A holder and a record in slot i.
-pub fn keep(list: &mut [u8], i: usize, holder: u16, bytes: &[u8]) {
-    let at = i % 128 * SLOT;
-    parts::put(list, at, (holder / 256) as u8);
-    parts::put(list, at + 1, (holder % 256) as u8);
-    parts::put(list, at + 2, (bytes.len() % SLOT) as u8);
-    parts::put_all(list, at + 3, bytes);
+    // How many entries have the holder.
+    pub fn live(&self, holder: u16) -> u64 {
+        let kept = parts::front(&self.entries, self.count as usize);
+        kept.iter().filter(|entry| entry.holder == holder).count() as u64
+    }
+
+    // One entry more, if there is room.
+    pub fn keep(&mut self, holder: u16, record: &[u8]) {
+        let mut bytes = [0; RECORD];
+        parts::put_all(&mut bytes, 0, record);
+        let size = record.len();
+        if let Some(entry) = self.entries.get_mut(self.count as usize) {
+            *entry = Entry {
+                holder,
+                size,
+                bytes,
+            };
+            self.count = self.count.wrapping_add(1);
+        }
+    }
 }

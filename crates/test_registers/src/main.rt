@@ -5,7 +5,7 @@
 #![tactic(auto)]
 
 use cases::counts::Counts;
-use cases::{counts, fields, parts};
+use cases::parts;
 
 mod answers;
 mod calling;
@@ -23,31 +23,43 @@ const STDIN: i32 = 0;
 // The most bytes of all cases.
 const INPUT: usize = 131072;
 
-// Whether the case of a line is right.
-fn right(line: &[u8], kind: u8) -> bool {
-    match kind {
-        b'l' => longest::right(line),
-        b'o' => odd::right(line),
-        _ => entering::right(line),
+// The kinds of cases.
+#[derive(Clone, Copy)]
+enum Kind {
+    Vector,
+    Trap,
+    Long,
+    Odd,
+}
+
+impl Kind {
+    // Whether the case of a line is one of the kind.
+    fn has(self, line: &[u8]) -> bool {
+        line.starts_with(match self {
+            Kind::Vector => b"f",
+            Kind::Trap => b"t",
+            Kind::Long => b"l",
+            Kind::Odd => b"o",
+        })
+    }
+
+    // Whether a case of the kind is right.
+    fn is_right(self, line: &[u8]) -> bool {
+        match self {
+            Kind::Vector | Kind::Trap => entering::is_right(line),
+            Kind::Long => longest::is_right(line),
+            Kind::Odd => odd::is_right(line),
+        }
     }
 }
 
-// The counts after a line; a line of another kind adds nothing.
-fn after_line(line: &[u8], kind: u8, c: Counts) -> Counts {
-    if parts::byte(line, 0) != kind {
-        return c;
-    }
-    counts::after(c, right(line, kind), line)
-}
-
-// The lines of a kind, and how many of them are right.
-fn lines(text: &[u8], kind: u8) -> Counts {
-    let mut c = Counts { right: 0, all: 0 };
-    let mut at = 0;
-    while at < text.len() {
-        let end = fields::line_end(text, at);
-        c = after_line(&text[at..end], kind, c);
-        at = end;
+// The cases of a kind, and how many of them are right.
+fn lines(text: &[u8], kind: Kind) -> Counts {
+    let mut c = Counts::default();
+    for line in text.split_inclusive(|&x| x == b'\n') {
+        if kind.has(line) {
+            c = c.after(kind.is_right(line), line);
+        }
     }
     c
 }
@@ -56,11 +68,11 @@ fn lines(text: &[u8], kind: u8) -> Counts {
 fn run(input: &mut [u8; INPUT]) {
     let n = io::read_full(STDIN, input);
     let text = parts::front(input, n);
-    counts::print(lines(text, b'f'), b"vectors");
-    counts::print(lines(text, b't'), b"traps");
-    counts::print(lines(text, b'l'), b"long registers");
-    counts::print(lines(text, b'o'), b"odd bytes");
-    counts::print(history::filings(text), b"filings and the end");
+    lines(text, Kind::Vector).print(b"vectors");
+    lines(text, Kind::Trap).print(b"traps");
+    lines(text, Kind::Long).print(b"long registers");
+    lines(text, Kind::Odd).print(b"odd bytes");
+    history::filings(text).print(b"filings and the end");
 }
 
 fn main() {

@@ -3,32 +3,24 @@
 // entries end or 0, `find` the number found or 0, `at` a head, the end or a refusal.
 use cases::fields::field;
 use cases::{fields, parts};
-use refusals::Verdict;
-use registers::{EntryAt, Heading, Search, SummaryOf};
+use registers::Heading;
 
 // The most bytes of a case.
 const MOST: usize = 32;
 
-// The number behind the arrow, and further ones.
-fn told(line: &[u8], i: usize) -> u64 {
-    fields::number(field(line, i % 8 + 5))
-}
-
 // The answer of `check_register`.
 pub fn checked(s: &[u8]) -> u64 {
-    let verdict = registers::check_register(s);
-    match verdict {
-        Verdict::Accepted => 0,
-        Verdict::Refused(r) => refusals::number(r) as u64,
+    match registers::check_register(s) {
+        Ok(()) => 0,
+        Err(r) => r.number() as u64,
     }
 }
 
 // The answer of `summary`.
 fn end_of(s: &[u8], holder: u16) -> u64 {
-    let summary = registers::summary(s, holder);
-    match summary {
-        SummaryOf::Register(o) => o.end as u64,
-        SummaryOf::Refused(_) => 0,
+    match registers::summary(s, holder) {
+        Ok(overview) => overview.end as u64,
+        Err(_) => 0,
     }
 }
 
@@ -36,54 +28,53 @@ fn end_of(s: &[u8], holder: u16) -> u64 {
 fn found(s: &[u8], text: &[u8]) -> u64 {
     let mut record = [0u8; MOST];
     let n = fields::bytes(text, &mut record);
-    let search = registers::find(s, parts::front(&record, n));
-    match search {
-        Search::Number(k) => k as u64,
-        Search::Nothing => 0,
-    }
+    registers::find(s, parts::front(&record, n)).map_or(0, u64::from)
 }
 
 // The offset in a field; `far` is the highest.
 fn offset(text: &[u8]) -> usize {
-    if parts::byte(text, 0) == b'f' {
-        return 18446744073709551615;
+    if text.starts_with(b"f") {
+        return usize::MAX;
     }
     fields::number(text) as usize
 }
 
 // Whether an entry is the one told: its number, its holder, where its record begins and where the next entry does.
 fn is_entry(line: &[u8], h: Heading) -> bool {
-    h.number as u64 == told(line, 1)
-        && h.holder as u64 == told(line, 2)
-        && h.start as u64 == told(line, 3)
-        && h.next as u64 == told(line, 4)
+    let told = |i| fields::number(field(line, i));
+    [
+        h.number as u64,
+        h.holder as u64,
+        h.start as u64,
+        h.next as u64,
+    ] == [told(6), told(7), told(8), told(9)]
 }
 
 // Whether the answer of `entry_at` is the one told.
-fn entry_right(line: &[u8], s: &[u8], at: usize) -> bool {
-    let kind = parts::byte(field(line, 5), 0);
-    let entry = registers::entry_at(s, at);
-    match entry {
-        EntryAt::Entry(h) => kind == b'h' && is_entry(line, h),
-        EntryAt::End => kind == b'e',
-        EntryAt::Refused(_) => kind == b'r',
+fn is_entry_right(line: &[u8], s: &[u8], at: usize) -> bool {
+    let told = field(line, 5);
+    match registers::entry_at(s, at) {
+        Ok(Some(h)) => told.starts_with(b"h") && is_entry(line, h),
+        Ok(None) => told.starts_with(b"e"),
+        Err(_) => told.starts_with(b"r"),
     }
 }
 
 // Whether a call on these bytes answers what is told.
-fn answered(line: &[u8], s: &[u8]) -> bool {
+fn is_answered(line: &[u8], s: &[u8]) -> bool {
     let given = field(line, 3);
-    match parts::byte(field(line, 1), 0) {
-        b'c' => checked(s) == told(line, 0),
-        b'e' => end_of(s, fields::holder(given)) == told(line, 0),
-        b'f' => found(s, given) == told(line, 0),
-        _ => entry_right(line, s, offset(given)),
+    let told = fields::number(field(line, 5));
+    match field(line, 1) {
+        [b'c', ..] => checked(s) == told,
+        [b'e', ..] => end_of(s, fields::holder(given)) == told,
+        [b'f', ..] => found(s, given) == told,
+        _ => is_entry_right(line, s, offset(given)),
     }
 }
 
 // Whether a case is right.
-pub fn right(line: &[u8]) -> bool {
+pub fn is_right(line: &[u8]) -> bool {
     let mut s = [0u8; MOST];
     let n = fields::bytes(field(line, 2), &mut s);
-    answered(line, parts::front(&s, n))
+    is_answered(line, parts::front(&s, n))
 }

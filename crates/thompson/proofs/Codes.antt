@@ -4,36 +4,29 @@ use mathlib.Core.Path.{◌≡◌, refl, sym, ap, ap₂, ◌∙◌}
 use Prim.Native.Nat.{ℕ, zero, suc, ◌+◌, ◌*◌, ◌/◌, ◌%◌, ◌<◌}
 use native.Mathlib.Omega.{arith}
 use lib.Dec.{lit<}
+use Rattle.std.specs.Prelude.{⊤, Result, Ok, Err}
+use Rattle.refusals.specs.declared.NodeNumber.{NodeNumber}
+use Rattle.updates.specs.declared.Account.{Account}
 use Rattle.refusals.specs.declared.Refusal.{Refusal}
 use Rattle.refusals.specs.declared.Refusal.TheVariants.{TooManyLetters, NotLetter, BadFrame, BadEntry}
 use Rattle.refusals.specs.declared.Refusal.TheVariants.{NotReduced, ShortTable, ShortBuffer, LongSpelling}
 use Rattle.refusals.specs.declared.Refusal.TheVariants.{Misspelled, LargeExponents, HighIndex}
 use Rattle.refusals.specs.declared.Refusal.TheVariants.{BadRegister, HolderFull, RegisterFull, NotTree}
-use Rattle.refusals.specs.declared.Verdict.{Verdict}
-use Rattle.refusals.specs.declared.Verdict.TheVariants as Verdicts
-use Rattle.refusals.specs.declared.Reply.{Reply}
-use Rattle.refusals.specs.declared.Reply.TheVariants as Replies
 use Rattle.refusals.specs.Refusals.{number_of, place_of}
 use Rattle.refusals.specs.Outcomes.{refused, refusal, verdict_of, reply_of}
 use Rattle.comparisons.specs.declared.Comparison.{Comparison}
-use Rattle.comparisons.specs.declared.Comparison.TheVariants.{Same, Inverse, Different, First, Second}
+use Rattle.comparisons.specs.declared.Comparison.TheVariants.{Same, Inverse, Different}
+use Rattle.comparisons.specs.declared.RefusedWord.{RefusedWord}
+use Rattle.comparisons.specs.declared.RefusedWord.TheVariants.{First, Second}
 use Rattle.comparisons.specs.Comparing.{refused_word, decision_of}
-use Rattle.packed.specs.declared.NodeEnd.{NodeEnd}
-use Rattle.packed.specs.declared.NodeEnd.TheVariants as NodeEnds
 use Rattle.packed.specs.Answers.{node_end_of}
-use Rattle.updates.specs.declared.AccountOf.{AccountOf}
-use Rattle.updates.specs.declared.AccountOf.TheVariants as Accounts
 use Rattle.updates.specs.declared.Entered.{Entered}
 use Rattle.updates.specs.declared.Entered.TheVariants as Answers
 use Rattle.updates.specs.Entering.{replied_of}
 use Rattle.thompson.specs.declared.Answer.{Answer}
 use Rattle.thompson.specs.declared.Filing.{Filing}
-use Rattle.thompson.specs.Codes.{answer, code_of, code_of_decision, code_of_reply, live_of, read_reply, reply_in}
+use Rattle.thompson.specs.Codes.{code_of, code_of_decision, code_of_reply, live_of, read_reply, reply_in}
 use Rattle.thompson.specs.Codes.{read_outcome, outcome_of, read_decision, decision_in}
-
-pub first_code : (r : Refusal) → code_of (refusal r) ≡ code_of_decision (decision_of (First r))
-first_code r =
-    let e : number_of r ≡ 256 * 0 + number_of r = omega arith in ap (λ (n : ℕ). answer n (place_of r)) e
 
 -- The number of a refusal is neither 0 nor as large as 256.
 number_some : (r : Refusal) → (0 < number_of r) × (number_of r < 256)
@@ -72,45 +65,45 @@ refusal_read : (r : Refusal) → outcome_of (code_of (refusal r)) ≡ refusal r
 refusal_read r = read_number (number_of r) (place_of r) (number_some r).0
 
 -- What is read in the numbers of each answer.
-pub verdict_read : (v : Verdict) → outcome_of (code_of (verdict_of v)) ≡ verdict_of v
-verdict_read Verdicts.Accepted = refl
-verdict_read (Verdicts.Refused r) = refusal_read r
+pub verdict_read : (v : Result ⊤ Refusal) → outcome_of (code_of (verdict_of v)) ≡ verdict_of v
+verdict_read (Ok tt) = refl
+verdict_read (Err r) = refusal_read r
 
-pub reply_read : (w : Reply) → outcome_of (code_of (reply_of w)) ≡ reply_of w
-reply_read (Replies.Number n) = refl
-reply_read (Replies.Refused r) = refusal_read r
+pub reply_read : (w : Result ℕ Refusal) → outcome_of (code_of (reply_of w)) ≡ reply_of w
+reply_read (Ok n) = refl
+reply_read (Err r) = refusal_read r
 
-pub node_end_read : (e : NodeEnd) → outcome_of (code_of (node_end_of e)) ≡ node_end_of e
-node_end_read (NodeEnds.Node n) = refl
-node_end_read (NodeEnds.Refused r) = refusal_read r
+pub node_end_read : (e : Result NodeNumber Refusal) → outcome_of (code_of (node_end_of e)) ≡ node_end_of e
+node_end_read (Ok n) = refl
+node_end_read (Err r) = refusal_read r
 
-comparison_read : (c : Comparison) → decision_in (code_of_decision (decision_of c)) ≡ decision_of c
-comparison_read Same = refl
-comparison_read Inverse = refl
-comparison_read Different = refl
-comparison_read (First r) = read_word_lem 0 (number_of r) (place_of r) (number_some r).0 (number_some r).1
-comparison_read (Second r) = read_word_lem 1 (number_of r) (place_of r) (number_some r).0 (number_some r).1
+comparison_read : (c : Result Comparison RefusedWord) → decision_in (code_of_decision (decision_of c)) ≡ decision_of c
+comparison_read (Ok Same) = refl
+comparison_read (Ok Inverse) = refl
+comparison_read (Ok Different) = refl
+comparison_read (Err (First r)) = read_word_lem 0 (number_of r) (place_of r) (number_some r).0 (number_some r).1
+comparison_read (Err (Second r)) = read_word_lem 1 (number_of r) (place_of r) (number_some r).0 (number_some r).1
 
-pub live_read : (a : AccountOf) → outcome_of (code_of (live_of a)) ≡ live_of a
-live_read (Accounts.Found x) = refl
-live_read (Accounts.Refused r) = refusal_read r
+pub live_read : (a : Result Account Refusal) → outcome_of (code_of (live_of a)) ≡ live_of a
+live_read (Ok x) = refl
+live_read (Err r) = refusal_read r
 
 -- What is read in the four numbers of a filing.
 read_refused : (n place held : ℕ) → 0 < n → read_reply n place held ≡ refused n place
 read_refused zero place held h = absurd (omega arith)
 read_refused (suc n) place held h = refl
 
-entered_read : (e : Entered) → reply_in (code_of_reply (replied_of e)) ≡ replied_of e
-entered_read (Answers.New k a) = refl
-entered_read (Answers.Present k a) = refl
-entered_read (Answers.Refused r) = read_refused (number_of r) (place_of r) 0 (number_some r).0
+entered_read : (e : Result Entered Refusal) → reply_in (code_of_reply (replied_of e)) ≡ replied_of e
+entered_read (Ok (Answers.New k a)) = refl
+entered_read (Ok (Answers.Present k a)) = refl
+entered_read (Err r) = read_refused (number_of r) (place_of r) 0 (number_some r).0
 
 -- The numbers of a decision, and of a filing's reply, are just those of what is read in them.
-pub comparison_exact : {a : Answer} (c : Comparison) → a ≡ code_of_decision (decision_of c)
+pub comparison_exact : {a : Answer} (c : Result Comparison RefusedWord) → a ≡ code_of_decision (decision_of c)
     → (decision_in a ≡ decision_of c) × (a ≡ code_of_decision (decision_in a))
 comparison_exact c e =
     let read = ap decision_in e ∙ comparison_read c in (read, e ∙ ap code_of_decision (sym read))
 
-pub entered_exact : {a : Filing} (e : Entered) → a ≡ code_of_reply (replied_of e)
+pub entered_exact : {a : Filing} (e : Result Entered Refusal) → a ≡ code_of_reply (replied_of e)
     → (reply_in a ≡ replied_of e) × (a ≡ code_of_reply (reply_in a))
 entered_exact e h = let read = ap reply_in h ∙ entered_read e in (read, h ∙ ap code_of_reply (sym read))

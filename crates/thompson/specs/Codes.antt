@@ -4,10 +4,11 @@
 --     code_of_reply, reply_in    the four numbers of a filing, and what a caller reads in them
 --     Passed code contract r     the contract of every exported call, over the contract of the call it passes on to
 -- Assumes nothing.
-use Rattle.std.specs.Prelude.{◌≡◌, ℕ, zero, suc, ◌+◌, ◌*◌, ◌/◌, ◌%◌}
+use Rattle.std.specs.Prelude.{◌≡◌, ℕ, zero, suc, ◌+◌, ◌*◌, ◌/◌, ◌%◌, Result}
+use Rattle.refusals.specs.declared.Refusal.{Refusal}
+use Rattle.updates.specs.declared.Account.{Account}
 use Rattle.refusals.specs.Outcomes.{Outcome, accepted, refused, valued}
 use Rattle.comparisons.specs.Comparing.{Decision, same, inverse, different, refused_word}
-use Rattle.updates.specs.declared.AccountOf.{AccountOf}
 use Rattle.updates.specs.Accounts.{account_of}
 use Rattle.updates.specs.Entering.{Reply, new_entry, present, reply_number}
 use Rattle.thompson.specs.declared.Answer.{Answer}
@@ -49,7 +50,7 @@ abbrev pub decision_in : Answer → Decision
 decision_in r = read_decision r.refusal r.value
 
 -- The live count of a holder's account.
-abbrev pub live_of : AccountOf → Outcome ℕ
+abbrev pub live_of : Result Account Refusal → Outcome ℕ
 live_of a = valued (λ x. x.live) (account_of a)
 
 -- The four numbers of a filing.

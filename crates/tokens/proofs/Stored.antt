@@ -1,61 +1,41 @@
 -- The powers that were read so far stand in the arrays, while their sizes do not sum above the limit. Assumes nothing.
 use mathlib.Core.Path.{◌≡◌, refl, sym, ap, ◌∙◌}
+use mathlib.Core.Bool.{Bool, true, false}
 use mathlib.Core.List.{List, [], ◌∷◌, ◌++◌}
 use Prim.Native.Nat.{ℕ, ◌+◌, ◌≤◌, ◌<◌}
-use native.Mathlib.Decide.{dec_lt}
 use native.Mathlib.Numerals.{add-one}
 use native.Mathlib.Omega.{arith}
 use lib.ListN.{length, take, set, length-append, length-set}
 use lib.Seq.{take-suc-set, length-take-le}
-use Rattle.numerals.specs.inside.Reading.{smaller}
-use Rattle.numerals.proofs.Values.{smaller-first, smaller_second, smaller_le, smaller-sum, smaller-below}
+use Rattle.std.specs.Prelude.{Option, Some, None}
 use Rattle.group.specs.Limits.{limit}
 use Rattle.group.specs.Powers.{SignedPower, signed_power, size_of, exponent_sizes}
 use Rattle.group.specs.inside.PowerLists.{side_of, powers_in}
 use Rattle.tokens.specs.declared.Powers.{Powers}
 use Rattle.tokens.specs.declared.token.Power.{Power}
 use Rattle.tokens.specs.inside.Arrays.{Holding}
-use Rattle.tokens.specs.inside.Spelling.{most}
-use Rattle.tokens.specs.inside.Keeping.{power_of, Keepable, Kept}
+use Rattle.tokens.specs.inside.Spelling.{side_of_sign, side_number}
+use Rattle.tokens.specs.inside.Keeping.{power_of, Few, Keepable, KeptMore, Kept}
 
-module _ {p : Power} {kept : Powers} {ks es ss : List ℕ} (h : Keepable p kept ks es ss) where
-  -- The sum would be above the limit.
-  pub keep_none : limit < kept.sum + p.exponent
-      → Kept p kept ks es ss ks es ss (record { count = kept.count; sum = most })
-  keep_none lt = record {
-    sum_more = sym (smaller_second (kept.sum + p.exponent) most (omega arith));
-    few_more = omega (arith, h.few, h.sum_within);
-    count_more = λ le. absurd (omega arith);
-    ks_more = λ le. absurd (omega arith);
-    es_more = λ le. absurd (omega arith);
-    ss_more = λ le. absurd (omega arith);
-  }
-
-  -- It is not.
-  pub keep_more : kept.sum + p.exponent ≤ limit
-      → Kept p kept ks es ss (set ks kept.count p.index) (set es kept.count p.exponent)
-      (set ss kept.count p.side) (record { count = kept.count + 1; sum = kept.sum + p.exponent })
-  keep_more le = record {
-    sum_more = sym (smaller-first (kept.sum + p.exponent) most (omega arith));
-    few_more = omega (arith, h.few, h.in_range.1);
-    count_more = λ _. refl;
-    ks_more = λ _. refl;
-    es_more = λ _. refl;
-    ss_more = λ _. refl;
-  }
-
--- The powers ps are kept.
-pub record Stored (ps : List SignedPower) (kept : Powers) (ks es ss : List ℕ) : Type 0 where
-  pub summed : kept.sum ≡ smaller (exponent_sizes ps) most
+-- The powers ps stand in the arrays.
+pub record Held (ps : List SignedPower) (kept : Powers) (ks es ss : List ℕ) : Type 0 where
+  pub summed : kept.sum ≡ exponent_sizes ps
+  pub small : kept.sum ≤ limit
   pub few : kept.count ≤ kept.sum
-  pub held : kept.sum ≤ limit → Holding ps kept.count ks es ss
+  pub held : Holding ps kept.count ks es ss
+
+-- They are kept, or their sizes sum above the limit.
+abbrev pub Stored : List SignedPower → Option Powers → (ks es ss : List ℕ) → Type 0
+Stored ps (Some kept) ks es ss = Held ps kept ks es ss
+Stored ps None ks es ss = limit < exponent_sizes ps
 
 -- No power yet.
-pub stored_none : (ks es ss : List ℕ) → Stored [] (record { count = 0; sum = 0 }) ks es ss
-stored_none ks es ss = record {
+pub held_none : (ks es ss : List ℕ) → Held [] (record { count = 0; sum = 0 }) ks es ss
+held_none ks es ss = record {
   summed = refl;
+  small = omega arith;
   few = omega arith;
-  held = λ _. record {
+  held = record {
     counts = refl;
     ks_long = omega arith;
     es_long = omega arith;
@@ -63,6 +43,11 @@ stored_none ks es ss = record {
     holds = refl;
   };
 }
+
+-- The powers that are kept are few.
+pub stored_few : (ps : List SignedPower) (kept : Option Powers) (ks es ss : List ℕ) → Stored ps kept ks es ss → Few kept
+stored_few ps (Some kept) ks es ss h = (h.few, h.small)
+stored_few ps None ks es ss h = tt
 
 -- The sizes of the powers, one more at the end.
 sizes_more : (ps : List SignedPower) (p : SignedPower) → exponent_sizes (ps ++ (p ∷ [])) ≡ exponent_sizes ps + size_of p
@@ -102,42 +87,31 @@ holding_more {ps} {count} {ks} {es} {ss} k e s h hk he hs = record {
       ∙ ap (λ (qs : List SignedPower). qs ++ (signed_power (side_of s) k e ∷ [])) h.holds);
 }
 
-module _ {ps : List SignedPower} {kept : Powers} {ks es ss : List ℕ} (st : Stored ps kept ks es ss) where
-  -- The sum is a number of one size.
-  pub stored_within : kept.sum ≤ most
-  stored_within = omega (arith, st.summed, smaller_le (exponent_sizes ps) most)
+-- The side of a sign, kept as a number.
+side_kept : (inverse : Bool) → side_of (side_number inverse) ≡ side_of_sign inverse
+side_kept false = refl
+side_kept true = refl
 
-  -- One power more.
-  pub stored_more : {p : Power} {r : Powers} {ks' es' ss' : List ℕ} → Keepable p kept ks es ss
-      → Kept p kept ks es ss ks' es' ss' r → Stored (ps ++ (power_of p ∷ [])) r ks' es' ss'
-  stored_more {p} {r} {ks'} {es'} {ss'} h k = record {
-    summed = k.sum_more ∙ ap (λ (x : ℕ). smaller (x + p.exponent) most) st.summed
-        ∙ smaller-sum (exponent_sizes ps) p.exponent most
-        ∙ ap (λ (x : ℕ). smaller x most) (sym (sizes_more ps (power_of p)));
-    few = k.few_more;
-    held = λ le. more (below le);
-  }
-    where
-      below : r.sum ≤ limit → kept.sum + p.exponent ≤ limit
-      below le = omega (arith, smaller-below (kept.sum + p.exponent) most (omega (arith, k.sum_more)))
+-- One power more.
+held_more : {ps : List SignedPower} {p : Power} {kept more : Powers} {ks es ss ks' es' ss' : List ℕ}
+    → Held ps kept ks es ss → Keepable p (Some kept) ks es ss → KeptMore p kept more ks es ss ks' es' ss'
+    → Held (ps ++ (power_of p ∷ [])) more ks' es' ss'
+held_more {ps} {p} {kept} {more} {ks} {es} {ss} h can k = record {
+  summed = omega (arith, h.summed, k.sum_more, sizes_more ps (power_of p));
+  small = k.sum_within;
+  few = omega (arith, h.few, k.sum_more, k.count_more, can.in_range.1);
+  held = rw (k.count_more, k.ks_more, k.es_more, k.ss_more, sym (side_kept p.inverse))
+      (holding_more p.index p.exponent (side_number p.inverse) h.held (omega (arith, room, can.ks_size))
+      (omega (arith, room, can.es_size)) (omega (arith, room, can.ss_size)));
+}
+  where
+    room : kept.count < limit
+    room = omega (arith, h.few, k.sum_within, k.sum_more, can.in_range.1)
 
-      more : kept.sum + p.exponent ≤ limit → Holding (ps ++ (power_of p ∷ [])) r.count ks' es' ss'
-      more le =
-          let room : kept.count < limit = omega (arith, st.few, h.in_range.1) in
-          rw (k.count_more le, k.ks_more le, k.es_more le, k.ss_more le)
-          (holding_more p.index p.exponent p.side (st.held (omega arith)) (omega (arith, h.ks_size))
-          (omega (arith, h.es_size)) (omega (arith, h.ss_size)))
-
-  -- The sum is at most the limit.
-  pub stored-sum : kept.sum ≤ limit → kept.sum ≡ exponent_sizes ps
-  stored-sum le =
-      st.summed
-      ∙ smaller-first (exponent_sizes ps) most (smaller-below (exponent_sizes ps) most (omega (arith, st.summed)))
-
-  -- It is not.
-  pub stored_large : limit < kept.sum → limit < exponent_sizes ps
-  stored_large lt = go (dec_lt (exponent_sizes ps) most)
-    where
-      go : Dec (exponent_sizes ps < most) → limit < exponent_sizes ps
-      go (yes h) = omega (arith, st.summed, smaller-first (exponent_sizes ps) most h)
-      go (no ge) = omega arith
+pub stored_more : (ps : List SignedPower) (p : Power) (kept more : Option Powers) (ks es ss ks' es' ss' : List ℕ)
+    → Stored ps kept ks es ss → Keepable p kept ks es ss → Kept p kept ks es ss ks' es' ss' more
+    → Stored (ps ++ (power_of p ∷ [])) more ks' es' ss'
+stored_more ps p (Some kept) (Some more) ks es ss ks' es' ss' h can k = held_more h can k
+stored_more ps p (Some kept) None ks es ss ks' es' ss' h can k = omega (arith, h.summed, sizes_more ps (power_of p))
+stored_more ps p None (Some more) ks es ss ks' es' ss' h can k = absurd k
+stored_more ps p None None ks es ss ks' es' ss' h can k = omega (arith, sizes_more ps (power_of p))

@@ -1,25 +1,23 @@
 -- The parts of a token: which contract each way through the functions that read an exponent, an index and a token
 -- meets. Assumes nothing.
-use mathlib.Core.Path.{◌≡◌, refl, sym, ap, ◌∙◌, subst}
-use mathlib.Core.Bool.{true, false}
+use mathlib.Core.Path.{◌≡◌, sym, ap, ◌∙◌}
 use mathlib.Core.List.{List, [], ◌∷◌, ◌++◌, append_assoc}
-use Prim.Native.Nat.{ℕ, ◌+◌, ◌≤◌, ◌<◌}
+use Prim.Native.Nat.{ℕ, ◌+◌, ◌≤◌}
 use native.Mathlib.Decide.{ℕ_discrete}
 use native.Mathlib.Omega.{arith}
 use borrow.Author.Tests.{eq-eqb, ne_eqb}
-use lib.ListN.{length, get_or, drop}
+use lib.ListN.{drop}
 use Rattle.numerals.specs.Decimals.{decimal}
 use Rattle.numerals.specs.inside.Reading.{NoDigit}
 use Rattle.group.specs.Forms.{Side, b_side, a_side}
-use Rattle.group.specs.Limits.{limit}
 use Rattle.group.specs.Powers.{signed_power}
-use Rattle.group.specs.inside.PowerLists.{side_of}
-use Rattle.tokens.specs.Tokens.{x_sign, power_sign, minus_sign, exponent_text}
+use Rattle.std.specs.Prelude.{None}
+use Rattle.tokens.specs.Tokens.{x_sign, power_sign, minus_sign, exponent_text, token_text}
 use Rattle.tokens.specs.inside.Ends.{AtEnd}
-use Rattle.tokens.specs.inside.Spelling.{most, is_end, NumberRead, IndexRead, LastRead, ExponentRead, PowerRead}
-use Rattle.tokens.specs.inside.Spelling.{NoToken}
+use Rattle.tokens.specs.inside.Spelling.{Stands, IndexFound, IndexRead, LastFound, LastRead}
+use Rattle.tokens.specs.inside.Spelling.{ExponentFound, ExponentRead, PowerRead, NoToken}
 use Rattle.tokens.proofs.TokenTexts.{exponent_no_digit}
-use Rattle.tokens.proofs.TokenEnds.{sign_here, sign_other, end_true, end_false, end_digit, end_sign}
+use Rattle.tokens.proofs.TokenEnds.{sign_here, sign_other, end_digit, end_sign}
 use Rattle.tokens.proofs.TokenEnds.{decimals_same, decimal_minus}
 
 -- An exponent without a minus sign.
@@ -38,108 +36,50 @@ b_parts e r s ge h q = go (ℕ_discrete e 1)
         let text : power_sign ∷ s ≡ power_sign ∷ (decimal e ++ r) = q ∙ ap (λ (l : List ℕ). l ++ r) (b_text e two) in
         (two, cc)
 
-module _ (t : List ℕ) (at : ℕ) {value end : ℕ} where
+module _ (t : List ℕ) (at : ℕ) where
   -- Behind `^-`.
-  pub signed_minus : get_or t at 0 ≡ minus_sign → LastRead t (at + 1) 1 value end
-      → ExponentRead (power_sign ∷ drop at t) t 1 value end
-  signed_minus h n = record {
-    within = n.within;
-    found = λ le. (
-      (n.found le).0,
-      ap (λ (l : List ℕ). power_sign ∷ l) (here ∙ ap (λ (l : List ℕ). minus_sign ∷ l) (n.found le).1),
-      (n.found le).2,
-    );
-    none = λ lt σ e r ge le ends q. refute lt σ e r ge le ends q;
-  }
-    where
-      here : drop at t ≡ minus_sign ∷ drop (at + 1) t
-      here = sign_here t at minus_sign (omega arith) h
+  minus_here : Stands t at minus_sign → drop at t ≡ minus_sign ∷ drop (at + 1) t
+  minus_here h = sign_here t at minus_sign h
 
-      refute : limit < value → (σ : Side) (e : ℕ) (r : List ℕ) → 1 ≤ e → e ≤ limit → AtEnd r
-          → power_sign ∷ drop at t ≡ exponent_text σ e ++ r → ⊥
-      refute lt b_side e r ge le ends q =
-          decimal_minus e r (drop (at + 1) t) (sym here ∙ (b_parts e r (drop at t) ge ends q).1)
-      refute lt a_side e r ge le ends q =
-          let behind : drop (at + 1) t ≡ decimal e ++ r = cc here in
-          n.none lt e r ge le ends behind
+  pub minus_found : {value end : ℕ} → Stands t at minus_sign → LastFound t (at + 1) 1 value end
+      → ExponentFound (power_sign ∷ drop at t) t a_side value end
+  minus_found h n = record {
+    within = n.within;
+    some = n.least_within;
+    small = n.small;
+    text = ap (λ (l : List ℕ). power_sign ∷ l) (minus_here h ∙ ap (λ (l : List ℕ). minus_sign ∷ l) n.text);
+    ends = n.ends;
+  }
+
+  pub minus_none : Stands t at minus_sign → LastRead t (at + 1) 1 None
+      → ExponentRead (power_sign ∷ drop at t) t None
+  minus_none h none b_side e r ge le ends q =
+      decimal_minus e r (drop (at + 1) t) (sym (minus_here h) ∙ (b_parts e r (drop at t) ge ends q).1)
+  minus_none h none a_side e r ge le ends q =
+      let behind : drop (at + 1) t ≡ decimal e ++ r = cc (minus_here h) in
+      none e r ge le ends behind
 
   -- Behind `^`.
-  pub signed_plain : (get_or t at 0 ≡ minus_sign → ⊥) → LastRead t at 2 value end
-      → ExponentRead (power_sign ∷ drop at t) t 0 value end
-  signed_plain other n = record {
+  pub plain_found : {value end : ℕ} → LastFound t at 2 value end
+      → ExponentFound (power_sign ∷ drop at t) t b_side value end
+  plain_found {value} {end} n = record {
     within = n.within;
-    found = λ le. (
-      omega (arith, (n.found le).0),
-      ap (λ (l : List ℕ). power_sign ∷ l) (n.found le).1
-          ∙ ap (λ (l : List ℕ). l ++ drop end t) (sym (b_text value (n.found le).0)),
-      (n.found le).2,
-    );
-    none = λ lt σ e r ge le ends q. refute lt σ e r ge le ends q;
-  }
-    where
-      refute : limit < value → (σ : Side) (e : ℕ) (r : List ℕ) → 1 ≤ e → e ≤ limit → AtEnd r
-          → power_sign ∷ drop at t ≡ exponent_text σ e ++ r → ⊥
-      refute lt b_side e r ge le ends q =
-          let parts = b_parts e r (drop at t) ge ends q in
-          n.none lt e r parts.0 le ends parts.1
-      refute lt a_side e r ge le ends q =
-          let behind : drop at t ≡ minus_sign ∷ (decimal e ++ r) = cc in
-          sign_other t at minus_sign other (decimal e ++ r) behind
-
-module _ (t : List ℕ) (at : ℕ) where
-  -- No exponent: the token ends.
-  pub exponent_one : at ≤ length t → is_end (drop at t) ≡ true → ExponentRead (drop at t) t 0 1 at
-  exponent_one within ends = record {
-    within = within;
-    found = λ le. (omega arith, refl, end_true (drop at t) ends);
-    none = λ lt. absurd (omega arith);
+    some = omega (arith, n.least_within);
+    small = n.small;
+    text =
+        ap (λ (l : List ℕ). power_sign ∷ l) n.text
+        ∙ ap (λ (l : List ℕ). l ++ drop end t) (sym (b_text value n.least_within));
+    ends = n.ends;
   }
 
-  -- The sign `^`.
-  pub exponent_signed : {side size end : ℕ} → get_or t at 0 ≡ power_sign
-      → ExponentRead (power_sign ∷ drop (at + 1) t) t side size end → ExponentRead (drop at t) t side size end
-  exponent_signed {side} {size} {end} h x =
-      subst (λ (s : List ℕ). ExponentRead s t side size end) (sym (sign_here t at power_sign (omega arith) h)) x
-
-  -- Another byte.
-  pub exponent_other : at ≤ length t → is_end (drop at t) ≡ false → (get_or t at 0 ≡ power_sign → ⊥)
-      → ExponentRead (drop at t) t 0 most at
-  exponent_other within on other = record {
-    within = within;
-    found = λ le. absurd (omega arith);
-    none = λ _ σ e r ge le ends q. refute σ e r ge ends q;
-  }
-    where
-      b_side_refuted : (e : ℕ) (r : List ℕ) → 1 ≤ e → AtEnd r → drop at t ≡ exponent_text b_side e ++ r → Dec (e ≡ 1) → ⊥
-      b_side_refuted e r ge ends q (yes one) =
-          end_false (drop at t) on (subst AtEnd (sym (simp (eq-eqb e 1 one) at q)) ends)
-      b_side_refuted e r ge ends q (no more) =
-          sign_other t at power_sign other (decimal e ++ r)
-          (q ∙ ap (λ (l : List ℕ). l ++ r) (b_text e (omega arith)))
-
-      refute : (σ : Side) (e : ℕ) (r : List ℕ) → 1 ≤ e → AtEnd r → drop at t ≡ exponent_text σ e ++ r → ⊥
-      refute b_side e r ge ends q = b_side_refuted e r ge ends q (ℕ_discrete e 1)
-      refute a_side e r ge ends q = sign_other t at power_sign other (minus_sign ∷ (decimal e ++ r)) q
-
-module _ (t : List ℕ) (at : ℕ) where
-  -- The sign `x`.
-  pub index_found : {value end : ℕ} → get_or t at 0 ≡ x_sign → NumberRead t (at + 1) value end → IndexRead t at value end
-  index_found {value} {end} h n = record {
-    within = n.within;
-    found = λ le. (here ∙ ap (λ (l : List ℕ). x_sign ∷ l) (n.found le).0, (n.found le).1);
-    none = λ lt m r le stop e. let behind : drop (at + 1) t ≡ decimal m ++ r = cc here in n.none lt m r le stop behind;
-  }
-    where
-      here : drop at t ≡ x_sign ∷ drop (at + 1) t
-      here = sign_here t at x_sign (omega arith) h
-
-  -- Another byte.
-  pub index_none : at ≤ length t → (get_or t at 0 ≡ x_sign → ⊥) → IndexRead t at most at
-  index_none within other = record {
-    within = within;
-    found = λ le. absurd (omega arith);
-    none = λ _ m r le stop e. sign_other t at x_sign other (decimal m ++ r) e;
-  }
+  pub plain_none : (Stands t at minus_sign → ⊥) → LastRead t at 2 None
+      → ExponentRead (power_sign ∷ drop at t) t None
+  plain_none other none b_side e r ge le ends q =
+      let parts = b_parts e r (drop at t) ge ends q in
+      none e r parts.0 le ends parts.1
+  plain_none other none a_side e r ge le ends q =
+      let behind : drop at t ≡ minus_sign ∷ (decimal e ++ r) = cc in
+      sign_other t at minus_sign other (decimal e ++ r) behind
 
 -- Bytes in front that do not begin with a digit.
 no_digit_append : (s r : List ℕ) → NoDigit s → NoDigit r → NoDigit (s ++ r)
@@ -150,34 +90,36 @@ no_digit_append (c ∷ s) r h g = h
 text_digit : (σ : Side) (e : ℕ) (r : List ℕ) → AtEnd r → NoDigit (exponent_text σ e ++ r)
 text_digit σ e r h = no_digit_append (exponent_text σ e) r (exponent_no_digit σ e) (end_digit r h)
 
-module _ {t : List ℕ} {at k end : ℕ} (i : IndexRead t at k end) where
-  -- No index: no token.
-  pub token_no_index : limit < k → NoToken (drop at t)
-  token_no_index lt (signed_power σ n e) r h ends q =
-      i.none lt n (exponent_text σ e ++ r) h.0 (text_digit σ e r ends)
-      (q ∙ ap (λ (l : List ℕ). x_sign ∷ l) (append_assoc (decimal n) (exponent_text σ e) r))
+-- A token in its two parts.
+token_parts : (n e : ℕ) (σ : Side) (r : List ℕ) {s : List ℕ} → s ≡ token_text (signed_power σ n e) ++ r
+    → s ≡ x_sign ∷ (decimal n ++ (exponent_text σ e ++ r))
+token_parts n e σ r q = q ∙ ap (λ (l : List ℕ). x_sign ∷ l) (append_assoc (decimal n) (exponent_text σ e) r)
 
-  module _ {side size end' : ℕ} (small : k ≤ limit) (x : ExponentRead (drop end t) t side size end') where
-    -- No exponent: no token.
-    pub token_no_exponent : limit < size → NoToken (drop at t)
-    token_no_exponent lt (signed_power σ n e) r h ends q =
-        let text : drop at t ≡ x_sign ∷ (decimal n ++ (exponent_text σ e ++ r)) =
-        q ∙ ap (λ (l : List ℕ). x_sign ∷ l) (append_assoc (decimal n) (exponent_text σ e) r) in
-        let here = i.found small in
-        let index : drop at t ≡ x_sign ∷ (decimal k ++ drop end t) = here.0 in
-        let both : decimal k ++ drop end t ≡ decimal n ++ (exponent_text σ e ++ r) = cc in
-        let parts = decimals_same k n (drop end t) (exponent_text σ e ++ r) here.1 (text_digit σ e r ends) both in
-        x.none lt σ e r h.1 h.2 ends parts.1
+-- No index: no token.
+pub token_no_index : (t : List ℕ) (at : ℕ) → IndexRead t at None → NoToken (drop at t)
+token_no_index t at none (signed_power σ n e) r h ends q =
+    none n (exponent_text σ e ++ r) h.0 (text_digit σ e r ends) (token_parts n e σ r q)
 
-    -- The token of a power.
-    pub token_found : size ≤ limit → PowerRead t at (signed_power (side_of side) k size) end'
-    token_found le =
-        let behind = x.found le in
-        record {
-          within = x.within;
-          in_range = (small, behind.0, le);
-          text = (i.found small).0
-              ∙ ap (λ (l : List ℕ). x_sign ∷ l) (ap (λ (l : List ℕ). decimal k ++ l) behind.1
-              ∙ sym (append_assoc (decimal k) (exponent_text (side_of side) size) (drop end' t)));
-          ends = behind.2;
-        }
+module _ {t : List ℕ} {at k end : ℕ} (i : IndexFound t at k end) where
+  -- No exponent: no token.
+  pub token_no_exponent : ExponentRead (drop end t) t None → NoToken (drop at t)
+  token_no_exponent none (signed_power σ n e) r h ends q =
+      let text : drop at t ≡ x_sign ∷ (decimal n ++ (exponent_text σ e ++ r)) = token_parts n e σ r q in
+      let index : drop at t ≡ x_sign ∷ (decimal k ++ drop end t) = i.text in
+      let both : decimal k ++ drop end t ≡ decimal n ++ (exponent_text σ e ++ r) = cc in
+      let parts = decimals_same k n (drop end t) (exponent_text σ e ++ r) i.stops (text_digit σ e r ends) both in
+      none σ e r h.1 h.2 ends parts.1
+
+  -- The token of a power.
+  pub token_found : {side : Side} {size end' : ℕ} → ExponentFound (drop end t) t side size end'
+      → PowerRead t at (signed_power side k size) end'
+  token_found {side} {size} {end'} x = record {
+    within = x.within;
+    in_range = (i.small, x.some, x.small);
+    text =
+        i.text
+        ∙ ap (λ (l : List ℕ). x_sign ∷ l)
+        (ap (λ (l : List ℕ). decimal k ++ l) x.text
+        ∙ sym (append_assoc (decimal k) (exponent_text side size) (drop end' t)));
+    ends = x.ends;
+  }

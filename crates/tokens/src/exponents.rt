@@ -5,12 +5,11 @@ ghost use Rattle.tokens.specs.inside.Spelling.{is_end, LastRead, ExponentRead};
 
 use crate::numbers;
 use crate::numbers::Number;
-use refusals::LIMIT;
 
-// The side, 0 or 1, and the size of an exponent, LIMIT + 1 where none is spelled, and the place behind it.
-#[derive(Drop)]
+// An exponent: whether it has a minus sign, and its size; and the place behind it.
+#[derive(Clone, Copy)]
 pub struct Exponent {
-    pub side: u8,
+    pub inverse: bool,
     pub size: usize,
     pub end: usize,
 }
@@ -19,74 +18,53 @@ pub struct Exponent {
 fn at_end(text: &[u8], at: usize) -> bool
     ensures { result ≡ is_end (drop at text.now) }
 {
-    if text.len() <= at {
-        return true;
-    }
-    text[at] == b' '
+    matches!(text.get(at), None | Some(b' '))
 }
 
 // The number that ends a token, not below a least.
-fn read_last(text: &[u8], at: usize, least: usize) -> Number
+fn read_last(text: &[u8], at: usize, least: usize) -> Option<Number>
     requires { at ≤ length text.now }
-    ensures { LastRead text.now at least result.value result.end }
+    ensures { LastRead text.now at least result }
 {
-    let found = numbers::read_number(text, at);
-    let end = found.end;
-    if found.value < least {
-        return Number {
-            value: LIMIT + 1,
-            end,
-        };
-    }
-    if at_end(text, end) {
-        return found;
-    }
-    Number {
-        value: LIMIT + 1,
-        end,
-    }
+    let found = numbers::read_number(text, at)?;
+    (least <= found.value && at_end(text, found.end)).then_some(found)
 }
 
 // The exponent behind the sign `^`: with a minus sign from 1 on, else from 2 on.
-fn read_signed(text: &[u8], at: usize) -> Exponent
+fn read_signed(text: &[u8], at: usize) -> Option<Exponent>
     requires { at ≤ length text.now }
-    ensures { ExponentRead (power_sign ∷ drop at text.now) text.now result.side result.size
-        result.end }
+    ensures { ExponentRead (power_sign ∷ drop at text.now) text.now result }
 {
-    if numbers::byte_at(text, at) == b'-' {
-        let found = read_last(text, at + 1, 1);
-        return Exponent {
-            side: 1,
+    if numbers::stands(text, at, b'-') {
+        let found = read_last(text, at + 1, 1)?;
+        return Some(Exponent {
+            inverse: true,
             size: found.value,
             end: found.end,
-        };
+        });
     }
-    let found = read_last(text, at, 2);
-    Exponent {
-        side: 0,
+    let found = read_last(text, at, 2)?;
+    Some(Exponent {
+        inverse: false,
         size: found.value,
         end: found.end,
-    }
+    })
 }
 
 // The exponent at a place: 1 where the token ends there.
-pub fn read_exponent(text: &[u8], at: usize) -> Exponent
+pub fn read_exponent(text: &[u8], at: usize) -> Option<Exponent>
     requires { at ≤ length text.now }
-    ensures { ExponentRead (drop at text.now) text.now result.side result.size result.end }
+    ensures { ExponentRead (drop at text.now) text.now result }
 {
     if at_end(text, at) {
-        return Exponent {
-            side: 0,
+        return Some(Exponent {
+            inverse: false,
             size: 1,
             end: at,
-        };
+        });
     }
-    if numbers::byte_at(text, at) == b'^' {
+    if numbers::stands(text, at, b'^') {
         return read_signed(text, at + 1);
     }
-    Exponent {
-        side: 0,
-        size: LIMIT + 1,
-        end: at,
-    }
+    None
 }

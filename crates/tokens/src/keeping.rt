@@ -5,28 +5,28 @@ use crate::Powers;
 use crate::token::Power;
 use refusals::LIMIT;
 
-// One power more, where the sizes do not sum above the limit; else their sum is LIMIT + 1.
+// One power more, where the sizes of all sum to at most the limit.
 pub fn keep(
     power: Power,
-    kept: Powers,
+    kept: Option<Powers>,
     indices: &mut [u16],
     exponents: &mut [u16],
     sides: &mut [u8],
-) -> Powers
+) -> Option<Powers>
     requires { Keepable power kept indices.old exponents.old sides.old }
     ensures { Kept power kept indices.old exponents.old sides.old
         indices.new exponents.new sides.new result }
 {
-    let at = kept.count;
-    let sum = kept.sum + power.exponent;
+    let Powers { count, sum } = kept?;
+    let sum = sum + power.exponent;
     if LIMIT < sum {
-        return Powers {
-            count: at,
-            sum: LIMIT + 1,
-        };
+        return None;
     }
-    indices[at] = power.index as u16;
-    exponents[at] = power.exponent as u16;
-    sides[at] = power.side;
-    Powers { count: at + 1, sum }
+    indices[count] = power.index as u16;
+    exponents[count] = power.exponent as u16;
+    sides[count] = u8::from(power.inverse);
+    Some(Powers {
+        count: count + 1,
+        sum,
+    })
 }

@@ -1,87 +1,61 @@
 // Decimal numbers in a text, at most the limit.
-ghost use Rattle.std.specs.Prelude.{◌≡◌, ◌≤◌, length, get_or};
+ghost use Rattle.std.specs.Prelude.{◌≤◌, length, MatchBool};
 ghost use Rattle.numerals.specs.Decimals.{Digit};
-ghost use Rattle.tokens.specs.inside.Spelling.{is_digit_value, next_value_lem, most, DigitsRead, NumberRead};
+ghost use Rattle.group.specs.Limits.{limit};
+ghost use Rattle.tokens.specs.inside.Spelling.{Stands, NextValue, DigitsRead, NumberRead};
 
 use refusals::LIMIT;
 
-// The value of digits, LIMIT + 1 for any above the limit, and the place behind the last.
-#[derive(Drop)]
+// A number, and the place behind its digits.
+#[derive(Clone, Copy)]
 pub struct Number {
     pub value: usize,
     pub end: usize,
 }
 
-// The byte at a place; 0 behind the end of the text.
-pub fn byte_at(text: &[u8], at: usize) -> u8
-    ensures { result ≡ get_or text.now at 0 }
+// Whether a sign stands at a place.
+pub fn stands(text: &[u8], at: usize, sign: u8) -> bool
+    ensures { MatchBool result (Stands text.now at sign) (¬ (Stands text.now at sign)) }
 {
-    if at < text.len() {
-        return text[at];
-    }
-    0
+    text.get(at) == Some(&sign)
 }
 
-// Whether a byte is a digit.
-fn is_digit(byte: u8) -> bool
-    ensures { result ≡ is_digit_value byte }
+// The value with one digit more, where it is at most the limit.
+fn next_value(value: usize, digit: u8) -> Option<usize>
+    requires { (value ≤ limit) × Digit digit }
+    ensures { NextValue value digit result }
 {
-    if byte < b'0' {
-        return false;
-    }
-    byte <= b'9'
-}
-
-// The value with one digit more.
-fn next_value(value: usize, byte: u8) -> usize
-    requires { (value ≤ most) × Digit byte }
-    ensures { result ≡ next_value_lem value byte }
-{
-    let next = 10 * value + (byte - b'0') as usize;
-    if LIMIT < next {
-        return LIMIT + 1;
-    }
-    next
+    let next = 10 * value + usize::from(digit - b'0');
+    (next <= LIMIT).then_some(next)
 }
 
 // All digits from a place on, also none.
-fn read_digits(text: &[u8], at: usize) -> Number
+fn read_digits(text: &[u8], at: usize) -> Option<Number>
     requires { at ≤ length text.now }
-    ensures { DigitsRead text.now at result.value result.end }
+    ensures { DigitsRead text.now at result }
 {
     let mut value = 0;
-    let mut end = at;
-    while end < text.len() {
+    for end in at..text.len() {
         let byte = text[end];
-        if !is_digit(byte) {
-            return Number { value, end };
+        if !byte.is_ascii_digit() {
+            return Some(Number { value, end });
         }
-        value = next_value(value, byte);
-        end += 1;
+        value = next_value(value, byte)?;
     }
-    Number { value, end }
+    Some(Number {
+        value,
+        end: text.len(),
+    })
 }
 
-// The number at a place: a value above the limit says that no numeral of a number up to the limit stands there.
-pub fn read_number(text: &[u8], at: usize) -> Number
+// The number up to the limit whose numeral stands at a place.
+pub fn read_number(text: &[u8], at: usize) -> Option<Number>
     requires { at ≤ length text.now }
-    ensures { NumberRead text.now at result.value result.end }
+    ensures { NumberRead text.now at result }
 {
-    let found = read_digits(text, at);
-    let end = found.end;
-    if end == at {
-        return Number {
-            value: LIMIT + 1,
-            end,
-        };
+    let found = read_digits(text, at)?;
+    if found.end == at || (found.end > at + 1 && text[at] == b'0') {
+        return None;
     }
-    if text[at] == b'0' {
-        if at + 1 < end {
-            return Number {
-                value: LIMIT + 1,
-                end,
-            };
-        }
-    }
-    found
+    Some(found)
 }

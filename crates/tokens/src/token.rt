@@ -5,57 +5,38 @@ ghost use Rattle.tokens.specs.inside.Keeping.{TokenRead};
 
 use crate::numbers::Number;
 use crate::{exponents, numbers};
-use refusals::LIMIT;
 
-// The power of a token, and the place behind it.
+// The power of a token, x_k^e or x_k^-e, and the place behind it.
 #[derive(Clone, Copy)]
 pub struct Power {
-    pub side: u8,
+    pub inverse: bool,
     pub index: usize,
     pub exponent: usize,
     pub end: usize,
 }
 
-// What stands at a place.
-#[derive(Drop)]
-pub enum Token {
-    Spelled(Power),
-    Misspelled,
-}
-
 // The sign `x` and an index at a place.
-fn read_index(text: &[u8], at: usize) -> Number
+fn read_index(text: &[u8], at: usize) -> Option<Number>
     requires { at ≤ length text.now }
-    ensures { IndexRead text.now at result.value result.end }
+    ensures { IndexRead text.now at result }
 {
-    if numbers::byte_at(text, at) == b'x' {
+    if numbers::stands(text, at, b'x') {
         return numbers::read_number(text, at + 1);
     }
-    Number {
-        value: LIMIT + 1,
-        end: at,
-    }
+    None
 }
 
 // The token at a place; it ends where the text ends or before a space.
-pub fn read_token(text: &[u8], at: usize) -> Token
+pub fn read_token(text: &[u8], at: usize) -> Option<Power>
     requires { at ≤ length text.now }
     ensures { TokenRead text.now at result }
 {
-    let index = read_index(text, at);
-    let k = index.value;
-    if LIMIT < k {
-        return Token::Misspelled;
-    }
-    let exponent = exponents::read_exponent(text, index.end);
-    let e = exponent.size;
-    if LIMIT < e {
-        return Token::Misspelled;
-    }
-    Token::Spelled(Power {
-        side: exponent.side,
-        index: k,
-        exponent: e,
+    let index = read_index(text, at)?;
+    let exponent = exponents::read_exponent(text, index.end)?;
+    Some(Power {
+        inverse: exponent.inverse,
+        index: index.value,
+        exponent: exponent.size,
         end: exponent.end,
     })
 }

@@ -3,13 +3,17 @@ use mathlib.Core.Path.{◌≡◌, refl, sym, ◌∙◌, ap, subst}
 use mathlib.Core.List.{List, [], ◌∷◌}
 use Prim.Native.Nat.{ℕ, zero, suc, ◌+◌, ◌-◌, ◌<◌, ◌≤◌, max}
 use native.Mathlib.Omega.{arith}
-use lib.ListN.{length, drop, get_or}
+use lib.ListN.{length, length-take, take, drop, get_or}
+use Rattle.std.specs.List.{AllWithin}
+use Rattle.std.specs.Option.{option_map_or}
+use Rattle.std.specs.Prelude.{Option, Some, None}
+use Rattle.std.proofs.lemmas.List.{get_or-take}
 use lib.Seq.{drop-cons, drop-length}
 use Rattle.lists.specs.Entries.{total}
 use Rattle.lists.proofs.Totals.{entry_total, drop-total}
 use Rattle.trees.specs.Building.{needed}
 use Rattle.trees.specs.inside.Zeros.{ZerosBefore}
-use Rattle.trees.specs.inside.Counting.{Unused, UpToLast, Counted}
+use Rattle.trees.specs.inside.Counting.{Unused, LastIs, UpToLast, Counted}
 use Rattle.trees.proofs.ZeroBlocks.{pass_block}
 
 -- No entry is looked at, then one entry more that is 0, or a block of them.
@@ -35,6 +39,16 @@ last_none {e} {i} u h =
     let z : i ≡ 0 = omega arith in
     record { unused = subst (λ (j : ℕ). Unused e j) z u; some = λ j p. absurd (omega arith) }
 
+-- Entries that are 0 in front of others.
+unused_back : {e : List ℕ} (k i : ℕ) → Unused e (i + k) → ((j : ℕ) → i ≤ j → j < i + k → get_or e j 0 ≡ 0) → Unused e i
+unused_back {e} zero i u z =
+    let same : i + 0 ≡ i = omega arith in
+    subst (λ (j : ℕ). Unused e j) same u
+unused_back {e} (suc k) i u z =
+    let next : i + suc k - 1 ≡ i + k = omega arith in
+    let one = unused_more u (omega arith) (z (i + suc k - 1) (omega arith) (omega arith)) in
+    unused_back k i (subst (λ (j : ℕ). Unused e j) next one) (λ j l m. z j l (omega arith))
+
 -- The sum from an entry on is at least that from a later one on.
 later-total : (j i : ℕ) (e : List ℕ) → j ≤ i → total (drop i e) ≤ total (drop j e)
 later-total zero i e h = drop-total i e
@@ -52,6 +66,25 @@ last_found {e} {i} u h = record {
     above : (x : ℕ) → (x ≡ 0 → ⊥) → 0 < x
     above zero f = absurd (f refl)
     above (suc x) f = omega arith
+
+-- The last entry of a front, behind which there are only zeros.
+module _ {e : List ℕ} {n : ℕ} (u : Unused e n) where
+  front : length (take n e) ≡ n
+  front = simp length-take (omega (arith, u.within))
+
+  -- From an entry on, those of the front are 0.
+  zeros_from : (i : ℕ) → i ≤ n → AllWithin (λ x. x ≡ 0) (take n e) i (length (take n e)) → Unused e i
+  zeros_from i h z =
+      let up : i + (n - i) ≡ n = omega arith in
+      unused_back (n - i) i (subst (λ (j : ℕ). Unused e j) (sym up) u)
+      (λ j l m. sym (get_or-take n e j 0 (omega arith)) ∙ z j 0 l (omega (arith, front)))
+
+  pub up_to : (r : Option ℕ) → LastIs (take n e) r → UpToLast e (option_map_or (λ i. i + 1) r 0)
+  up_to None z = last_none (zeros_from 0 (omega arith) z) (omega arith)
+  up_to (Some i) h =
+      let place : i + 1 - 1 ≡ i = omega arith in
+      last_found (zeros_from (i + 1) (omega (arith, h.0, front)) h.1)
+      (λ q. omega (arith, h.2 0, get_or-take n e i 0 (omega (arith, h.0, front)), q, ap (λ (j : ℕ). get_or e j 0) place))
 
 -- Entries that sum to 0 need no caret; others need more than their sum, counted from the first of them.
 needed_none : (k : ℕ) (es : List ℕ) → total es ≡ 0 → needed k es ≡ 0

@@ -3,14 +3,17 @@
 --     Pending      the loop over the leaves of an interior subtree
 -- Assumes nothing.
 use mathlib.Core.Path.{◌≡◌, refl, sym, ap, ◌∙◌, ◌≡⟨◌⟩◌, ◌∎}
-use mathlib.Core.List.{List, [], ◌∷◌, ◌++◌}
+use mathlib.Core.List.{List, [], ◌∷◌, ◌++◌, append_assoc}
 use Prim.Native.Nat.{ℕ, zero, suc, ◌+◌, ◌-◌, ◌<◌, ◌≤◌}
 use native.Mathlib.Nat.{zero-add, add-zero, not-suc-le-zero, le_of_suc-le-suc}
 use native.Mathlib.Numerals.{add-one}
 use native.Mathlib.Omega.{arith}
 use lib.Dec.{lit<}
-use lib.ListN.{length, replicate, drop, get_or, set, length-append, length-replicate, length-set}
+use lib.ListN.{length, replicate, take, drop, length-take, length-drop, get_or, set, length-append, length-replicate, length-set}
 use lib.ListN.{drop_of_length-le}
+use borrow.Rule.Slice.PartMut.{put_mid}
+use Rattle.std.proofs.lemmas.Slice.{put_mid-paste}
+use Rattle.std.proofs.lemmas.List.Edits.{paste_all, sets-eq}
 use lib.Seq.{sets, append_snoc}
 use Rattle.lists.specs.inside.Writes.{Wrote, Writing}
 use Rattle.lists.proofs.Writes.{sets-append, write_start, write_more, writing_same, writing_length}
@@ -24,6 +27,21 @@ own n = replicate n 1 ++ (0 ∷ [])
 
 pub own_length : (n : ℕ) → length (own n) ≡ n + 1
 own_length n = length-append (replicate n 1) (0 ∷ []) ∙ ap (λ (k : ℕ). k + 1) (length-replicate n 1)
+
+-- A part of n bytes that was filled with carets.
+pub filled_part : (n at : ℕ) (entry part : List ℕ) → at + n ≤ length entry
+    → (part ≡ replicate (length (take (at + n - at) (drop at entry))) 1)
+    → put_mid at (at + n - at) entry part ≡ sets entry at (replicate n 1)
+filled_part n at entry part room is =
+    let ones : List ℕ = replicate n 1 in
+    let many : length ones ≡ n = length-replicate {A = ℕ} n 1 in
+    let size : at + n - at ≡ n = omega arith in
+    let whole : length (take (at + n - at) (drop at entry)) ≡ n = simp (length-take, length-drop) (omega arith) in
+    put_mid-paste at (at + n - at) entry part ones n (is ∙ ap (λ (k : ℕ). replicate k 1) whole) (sym size) (sym many)
+    ∙ paste_all entry at ones n (sym many)
+    ∙ ap (λ (k : ℕ). take at entry ++ (ones ++ drop (at + k) entry)) (sym many)
+    ∙ sym (append_assoc (take at entry) ones (drop (at + length ones) entry))
+    ∙ sym (sets-eq ones entry at (omega (arith, many)))
 
 -- The carets of a leaf were written, then the leaf.
 pub own_wrote : (n at : ℕ) (entry mid : List ℕ) → mid ≡ sets entry at (replicate n 1)

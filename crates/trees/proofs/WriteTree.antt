@@ -1,17 +1,14 @@
 -- The whole tree, written from its first leaf: the exponents of the n first leaves decide it. A table with fewer
 -- entries is copied to the front of zeros, which has the same tree. Assumes nothing.
 use mathlib.Core.Path.{◌≡◌, refl, sym, ap, ◌∙◌, ◌≡⟨◌⟩◌, ◌∎}
-use mathlib.Core.List.{List}
+use mathlib.Core.List.{List, [], ◌∷◌, ◌++◌, append-nil}
 use Prim.Native.Nat.{ℕ, zero, suc, ◌<◌, ◌≤◌}
 use native.Mathlib.Omega.{arith}
 use native.Mathlib.Decide.{dec_lt}
-use lib.ListN.{length, take, get_or, replicate, length-take, length-replicate, get_or-eq_default}
+use lib.ListN.{length, length-append, length-drop, take, drop, get_or, replicate, length-take, length-replicate, get_or-eq_default}
 use lib.Seq.{get_or-take}
 use Rattle.lists.specs.inside.Entries.{SameEntries}
-use Rattle.lists.specs.Tables.{filled}
-use Rattle.lists.proofs.Tables.{filled-length, filled_at, filled-beyond}
 use Rattle.lists.proofs.Totals.{same_replicate}
-use Rattle.copying.specs.inside.Copying.{Copied}
 use Rattle.trees.specs.Trees.{carets}
 use Rattle.trees.specs.Building.{needed, tree_of}
 use Rattle.trees.specs.Pairs.{max_carets}
@@ -60,59 +57,29 @@ module _ {e : List ℕ} {n : ℕ} {buffer : List ℕ} (f : ShapeFits e n buffer)
         early = omega arith;
       }
 
--- The entries of a table, at the front of another.
-abbrev copied_front : (e table : List ℕ) → List ℕ
-copied_front e table = filled (length e) (λ i. get_or e i 0) table
+-- A table in front of zeros has the same entries.
+zeros_behind : (e : List ℕ) (m : ℕ) → SameEntries (e ++ drop (length e) (replicate m 0)) e
+zeros_behind [] m i = same_replicate m i
+zeros_behind (x ∷ e) zero i = ap (λ (l : List ℕ). get_or (x ∷ l) i 0) (append-nil e)
+zeros_behind (x ∷ e) (suc m) zero = refl
+zeros_behind (x ∷ e) (suc m) (suc i) = zeros_behind e m i
 
--- A table at the front of zeros has the same entries.
-copied_same : (e : List ℕ) (m : ℕ) → SameEntries (copied_front e (replicate m 0)) e
-copied_same e m i = go (dec_lt i (length e))
-  where
-    go : Dec (i < length e) → get_or (copied_front e (replicate m 0)) i 0 ≡ get_or e i 0
-    go (yes h) = filled_at (length e) (λ j. get_or e j 0) (replicate m 0) i h
-    go (no h) =
-        get_or (copied_front e (replicate m 0)) i 0
-        ≡⟨ filled-beyond (length e) (λ j. get_or e j 0) (replicate m 0) i (omega arith) ⟩
-        get_or (replicate m 0) i 0
-        ≡⟨ same_replicate m i ⟩
-        0
-        ≡⟨ sym (get_or-eq_default e 0 (omega arith)) ⟩
-        get_or e i 0 ∎
+-- A copy to the front of m zeros needs as many carets and has the same tree.
+module _ {e : List ℕ} {n : ℕ} {buffer : List ℕ} (f : ShapeFits e n buffer) (m : ℕ) (few : length e ≤ m)
+    (small : m ≤ max_carets) {front : List ℕ} (copied : front ≡ e) where
+  padded_same : SameEntries (front ++ drop (length e) (replicate m 0)) e
+  padded_same = rw copied (zeros_behind e m)
 
--- A copy to m zeros needs as many carets and has the same tree.
-module _ {e : List ℕ} {n : ℕ} {buffer : List ℕ} (f : ShapeFits e n buffer) (m : ℕ) (few : length e ≤ m) (enough : n ≤ m)
-    (small : m ≤ max_carets) {table : List ℕ} (copied : Copied e (replicate m 0) (length e) table) where
-  -- There is room for all entries.
-  zeros_length : length (replicate {A = ℕ} m 0) ≡ m
-  zeros_length = length-replicate {A = ℕ} m 0
+  padded_length : length (front ++ drop (length e) (replicate m 0)) ≡ m
+  padded_length = rw copied (simp (length-append, length-drop, length-replicate) (omega arith))
 
-  table_room : length e ≤ length (replicate {A = ℕ} m 0)
-  table_room = omega (arith, zeros_length, few)
-
-  table_copied : table ≡ copied_front e (replicate m 0)
-  table_copied = copied.fits (omega arith) table_room
-
-  table_same : SameEntries table e
-  table_same i = ap (λ (t : List ℕ). get_or t i 0) table_copied ∙ copied_same e m i
-
-  table-length : length table ≡ m
-  table-length =
-      length table ≡⟨ ap length table_copied ⟩
-      length (copied_front e (replicate m 0))
-      ≡⟨ filled-length (length e) (λ j. get_or e j 0) (replicate m 0) table_room ⟩
-      length (replicate {A = ℕ} m 0) ≡⟨ zeros_length ⟩
-      m ∎
-
-  pub copied_fits : ShapeFits table n buffer
-  copied_fits = record {
-    entries = omega (arith, table-length, small);
-    enough = omega (arith, needed_same table e table_same, f.enough);
+  pub padded_fits : ShapeFits (front ++ drop (length e) (replicate m 0)) n buffer
+  padded_fits = record {
+    entries = omega (arith, padded_length, small);
+    enough = omega (arith, needed_same _ e padded_same, f.enough);
     small = f.small;
     room = f.room;
   }
 
-  pub copied_whole : n ≤ length table
-  copied_whole = omega (arith, table-length, enough)
-
-  pub copied_tree : tree_of n table ≡ tree_of n e
-  copied_tree = tree_same n table e table_same
+  pub padded_tree : tree_of n (front ++ drop (length e) (replicate m 0)) ≡ tree_of n e
+  padded_tree = tree_same n _ e padded_same

@@ -1,12 +1,12 @@
 -- Zeros of a table: how they become known, one by one and by the block. Assumes nothing.
-use mathlib.Core.Path.{◌≡◌, ◌∙◌, ap}
-use mathlib.Core.List.{List, ◌∷◌}
-use Prim.Native.Nat.{ℕ, zero, suc, ◌+◌, ◌≤◌, ◌<◌}
+use mathlib.Core.Path.{◌≡◌, ◌∙◌, refl, sym, ap}
+use mathlib.Core.List.{List, [], ◌∷◌, ◌++◌}
+use Prim.Native.Nat.{ℕ, zero, suc, ◌+◌, ◌-◌, ◌≤◌, ◌<◌}
 use native.Mathlib.Omega.{arith}
-use native.Mathlib.Decide.{dec_le}
 use lib.Bits.{bit_or, or_add_and, and_le_l, and_le_r}
-use lib.ListN.{length, drop, get_or, get_or-eq_default}
+use lib.ListN.{length, take, drop, get_or, get_or-eq_default}
 use lib.Seq.{drop-cons}
+use Rattle.std.proofs.lemmas.List.{get_or-take, get_or-drop}
 use Rattle.lists.specs.Entries.{total}
 use Rattle.trees.specs.Building.{needed}
 use Rattle.trees.specs.inside.Zeros.{KnownZeros, ZerosBefore}
@@ -18,20 +18,27 @@ or_left a b h = omega (arith, or_add_and a b, and_le_r a b)
 pub or_right : (a b : ℕ) → bit_or a b ≡ 0 → b ≡ 0
 or_right a b h = omega (arith, or_add_and a b, and_le_l a b)
 
--- No entry, one more, and fewer.
-pub zeros_none : (e : List ℕ) (from most : ℕ) → KnownZeros e from most 0
-zeros_none e from most = record { few = omega arith; zeros = λ i l h. absurd (omega arith) }
+-- All entries are 0, also with one more behind.
+abbrev pub Zeros : List ℕ → Type 0
+Zeros e = (i : ℕ) → get_or e i 0 ≡ 0
 
-pub zeros_more : {e : List ℕ} {from most r : ℕ} → KnownZeros e from most r → r < most → get_or e (from + r) 0 ≡ 0
-    → KnownZeros e from most (r + 1)
-zeros_more {e} {from} {most} {r} k h z =
-    record { few = omega arith; zeros = λ i l m. go i l m (dec_le (from + r) i) }
+pub zeros_push : (e : List ℕ) (x : ℕ) → x ≡ 0 → Zeros e → Zeros (e ++ (x ∷ []))
+zeros_push [] x z h zero = z
+zeros_push [] x z h (suc i) = refl
+zeros_push (y ∷ e) x z h zero = h zero
+zeros_push (y ∷ e) x z h (suc i) = zeros_push e x z (λ j. h (suc j)) i
+
+-- A part of a table that is 0, and fewer entries.
+pub zeros_known : (e : List ℕ) (from n : ℕ) → Zeros (take n (drop from e)) → KnownZeros e from n n
+zeros_known e from n h = record { few = omega arith; zeros = λ i l m. at_place i l m }
   where
-    go : (i : ℕ) → from ≤ i → i < from + (r + 1) → Dec (from + r ≤ i) → get_or e i 0 ≡ 0
-    go i l m (yes c) =
-        let same : i ≡ from + r = omega arith in
-        ap (λ (j : ℕ). get_or e j 0) same ∙ z
-    go i l m (no c) = k.zeros i l (omega arith)
+    at_place : (i : ℕ) → from ≤ i → i < from + n → get_or e i 0 ≡ 0
+    at_place i l m =
+        let back : from + (i - from) ≡ i = omega arith in
+        ap (λ (j : ℕ). get_or e j 0) (sym back)
+        ∙ sym (get_or-drop from e (i - from) 0)
+        ∙ sym (get_or-take n (drop from e) (i - from) 0 (omega arith))
+        ∙ h (i - from)
 
 pub zeros_fewer : {e : List ℕ} {from most r : ℕ} → KnownZeros e from most r → (few s : ℕ) → s ≤ r → s ≤ few
     → KnownZeros e from few s

@@ -3,7 +3,7 @@ ghost use Rattle.std.specs.Prelude.{◌≡◌, true, ◌≤◌, ◌-◌, max, le
 ghost use Rattle.trees.specs.Building.{needed as neededFrom};
 ghost use Rattle.trees.specs.Pairs.{carets_of_sides, max_carets};
 ghost use Rattle.trees.specs.inside.Zeros.{ZerosBefore};
-ghost use Rattle.trees.specs.inside.Counting.{Unused, UpToLast, Countable, CountedOn};
+ghost use Rattle.trees.specs.inside.Counting.{Unused, LastIs, UpToLast, Countable, CountedOn};
 
 use crate::zeros::{BLOCK, known_zeros};
 
@@ -15,21 +15,11 @@ struct Tally {
     carets: usize,
 }
 
-// The larger of two numbers.
-fn larger(m: usize, n: usize) -> usize
-    ensures { result ≡ max m n }
-{
-    if m < n { n } else { m }
-}
-
 // Whether a block of zeros ends at a place.
 fn zeros_before(e: &[u16], end: usize) -> bool
     ensures { result ≡ true → ZerosBefore e.now end }
 {
-    if end < BLOCK {
-        return false;
-    }
-    known_zeros(e, end - BLOCK, BLOCK) == BLOCK
+    end >= BLOCK && known_zeros(e, end - BLOCK, BLOCK) == BLOCK
 }
 
 // The entries in front of the blocks of zeros at the table's end.
@@ -43,61 +33,49 @@ fn whole_blocks(e: &[u16]) -> usize
     i
 }
 
+// The place of the last entry that is not 0.
+fn last(e: &[u16]) -> Option<usize>
+    ensures { LastIs e.now result }
+{
+    e.iter().rposition(|x| *x != 0)
+}
+
 // The entries up to the last that is not 0.
 fn used(e: &[u16]) -> usize
     ensures { UpToLast e.now result }
 {
-    let mut i = whole_blocks(e);
-    while i > 0 {
-        if e[i - 1] != 0 {
-            return i;
+    last(&e[..whole_blocks(e)]).map_or(0, |i| i + 1)
+}
+
+impl Tally {
+    // The block in front added, entry by entry; an exponent 0 needs no more than the next above 0 does.
+    fn add_entries(self, e: &[u16]) -> Tally
+        requires { Countable e.now self }
+        ensures { CountedOn e.now self result }
+    {
+        let from = self.from.saturating_sub(BLOCK);
+        let mut sum = self.sum;
+        let mut carets = self.carets;
+        for i in (from..self.from).rev() {
+            sum += e[i] as usize;
+            carets = carets.max(i + sum + 1);
         }
-        i -= 1;
+        Tally { from, sum, carets }
     }
-    0
-}
 
-// Where the block that ends at a place begins, or the table.
-fn block_start(end: usize) -> usize
-    ensures { result ≡ end - 64 }
-{
-    if end < BLOCK { 0 } else { end - BLOCK }
-}
-
-// The block in front of a tally added to it, entry by entry; an exponent 0 needs no more than the next above 0 does.
-fn add_entries(e: &[u16], tally: Tally) -> Tally
-    requires { Countable e.now tally }
-    ensures { CountedOn e.now tally result }
-{
-    let start = block_start(tally.from);
-    let mut i = tally.from;
-    let mut sum = tally.sum;
-    let mut n = tally.carets;
-    while i > start {
-        i -= 1;
-        sum += e[i] as usize;
-        n = larger(i + sum + 1, n);
+    // The block in front added; zeros change neither the sum nor the carets.
+    fn add_block(self, e: &[u16]) -> Tally
+        requires { Countable e.now self }
+        ensures { CountedOn e.now self result }
+    {
+        if zeros_before(e, self.from) {
+            return Tally {
+                from: self.from - BLOCK,
+                ..self
+            };
+        }
+        self.add_entries(e)
     }
-    Tally {
-        from: i,
-        sum: sum,
-        carets: n,
-    }
-}
-
-// The block in front of a tally added to it; zeros change neither the sum nor the carets.
-fn add_block(e: &[u16], tally: Tally) -> Tally
-    requires { Countable e.now tally }
-    ensures { CountedOn e.now tally result }
-{
-    if zeros_before(e, tally.from) {
-        return Tally {
-            from: tally.from - BLOCK,
-            sum: tally.sum,
-            carets: tally.carets,
-        };
-    }
-    add_entries(e, tally)
 }
 
 // The carets that a table of exponents needs.
@@ -111,7 +89,7 @@ fn needed(e: &[u16]) -> usize
         carets: 0,
     };
     while tally.from > 0 {
-        tally = add_block(e, tally);
+        tally = tally.add_block(e);
     }
     tally.carets
 }
@@ -122,5 +100,5 @@ pub fn carets(b: &[u16], a: &[u16]) -> usize
     requires a_len_bound { length a.now ≤ max_carets }
     ensures { result ≡ carets_of_sides b.now a.now }
 {
-    larger(needed(b), needed(a))
+    needed(b).max(needed(a))
 }

@@ -6,7 +6,8 @@ ghost use Rattle.lists.specs.inside.Writes.{Wrote};
 ghost use Rattle.trees.specs.inside.Writing.{nodes_from};
 ghost use Rattle.trees.specs.Building.{tree_of};
 ghost use Rattle.trees.specs.Shapes.{shape as shape_of};
-ghost use Rattle.trees.specs.inside.Steps.{NodesFit, Partly, ShapeFits, small_carets};
+ghost use Rattle.trees.specs.inside.Steps.{NodesFit, Partly, ShapeFits};
+ghost use Rattle.trees.specs.Pairs.{max_carets};
 
 use crate::MAX_CARETS;
 use refusals::{GeneratorIndex, LeafNumber};
@@ -16,22 +17,10 @@ use refusals::{GeneratorIndex, LeafNumber};
 const SMALL: usize = 64;
 
 // How far a shape is written: the next leaf, and the place of its first node.
-#[derive(Drop)]
+#[derive(Clone, Copy)]
 pub struct Place {
     pub leaf: LeafNumber,
     pub at: usize,
-}
-
-// n carets in a row.
-fn put_carets(shape: &mut [u8], at: usize, n: usize)
-    requires { at + n ≤ length shape.old }
-    ensures { shape.new ≡ sets shape.old at (replicate n 1) }
-{
-    let mut k = 0;
-    while k < n {
-        shape[at + k] = 1;
-        k += 1;
-    }
 }
 
 // n carets in a row and a leaf; answers the place behind.
@@ -39,7 +28,7 @@ fn put_leaf(shape: &mut [u8], at: usize, n: usize) -> usize
     requires { at + n < length shape.old }
     ensures { Wrote (replicate n 1 ++ (0 ∷ [])) shape.old at shape.new result }
 {
-    put_carets(shape, at, n);
+    shape[at..at + n].fill(1);
     shape[at + n] = 0;
     at + n + 1
 }
@@ -48,8 +37,7 @@ fn put_leaf(shape: &mut [u8], at: usize, n: usize) -> usize
 fn exponent(e: &[u16], i: GeneratorIndex) -> usize
     ensures { result ≡ get_or e.now i.0 0 }
 {
-    let k = i.0 as usize;
-    if k < e.len() { e[k] as usize } else { 0 }
+    e.get(i.0 as usize).map_or(0, |x| *x as usize)
 }
 
 // The exponent of leaf k is that of x_k.
@@ -60,48 +48,53 @@ fn leaf_exponent(e: &[u16], leaf: LeafNumber) -> usize
 }
 
 // The interior subtree that begins at a leaf: leaf by leaf, until no subtree is pending.
-fn write_subtree(e: &[u16], leaf: LeafNumber, shape: &mut [u8], at: usize) -> Place
-    requires { NodesFit e.now leaf.0 1 at shape.old }
-    ensures { Partly e.now leaf.0 shape.old at shape.new result }
+fn write_subtree(e: &[u16], from: Place, shape: &mut [u8]) -> Place
+    requires { NodesFit e.now from.leaf.0 1 from.at shape.old }
+    ensures { Partly e.now from.leaf.0 shape.old from.at shape.new result }
 {
-    let mut k = leaf.0;
-    let mut p = at;
+    let mut place = from;
     let mut pending = 1;
     while pending > 0 {
-        let n = leaf_exponent(e, LeafNumber(k));
-        p = put_leaf(shape, p, n);
-        k += 1;
+        let n = leaf_exponent(e, place.leaf);
+        place = Place {
+            leaf: LeafNumber(place.leaf.0 + 1),
+            at: put_leaf(shape, place.at, n),
+        };
         pending = pending - 1 + n;
     }
-    Place {
-        leaf: LeafNumber(k),
-        at: p,
-    }
+    place
 }
 
 // The rest of the tree from a leaf on, where a caret of the right side begins; answers where it ends.
 #[cycle(write_inner_write_spine)]
-fn write_spine(e: &[u16], leaf: LeafNumber, shape: &mut [u8], at: usize) -> usize
-    requires { NodesFit e.now leaf.0 0 at shape.old }
-    ensures { Wrote (nodes_from (drop leaf.0 e.now) 0) shape.old at
+fn write_spine(e: &[u16], from: Place, shape: &mut [u8]) -> usize
+    requires { NodesFit e.now from.leaf.0 0 from.at shape.old }
+    ensures { Wrote (nodes_from (drop from.leaf.0 e.now) 0) shape.old from.at
         shape.new result }
 {
-    if (leaf.0 as usize) < e.len() {
-        shape[at] = 1;
-        return write_inner(e, leaf, shape, at + 1);
+    if (from.leaf.0 as usize) < e.len() {
+        shape[from.at] = 1;
+        return write_inner(
+            e,
+            Place {
+                at: from.at + 1,
+                ..from
+            },
+            shape,
+        );
     }
-    put_leaf(shape, at, 0)
+    put_leaf(shape, from.at, 0)
 }
 
 // The rest of the tree from a leaf on, where an interior subtree begins.
 #[cycle(write_inner_write_spine)]
-fn write_inner(e: &[u16], leaf: LeafNumber, shape: &mut [u8], at: usize) -> usize
-    requires { NodesFit e.now leaf.0 1 at shape.old }
-    ensures { Wrote (nodes_from (drop leaf.0 e.now) 1) shape.old at
+fn write_inner(e: &[u16], from: Place, shape: &mut [u8]) -> usize
+    requires { NodesFit e.now from.leaf.0 1 from.at shape.old }
+    ensures { Wrote (nodes_from (drop from.leaf.0 e.now) 1) shape.old from.at
         shape.new result }
 {
-    let p = write_subtree(e, leaf, shape, at);
-    write_spine(e, p.leaf, shape, p.at)
+    let behind = write_subtree(e, from, shape);
+    write_spine(e, behind, shape)
 }
 
 // The tree with n carets and the exponents of a table that has an entry for every leaf but the last.
@@ -110,27 +103,23 @@ fn write_whole(e: &[u16], n: usize, shape: &mut [u8])
     requires n_in_bounds { n ≤ length e.now }
     ensures { shape.new ≡ sets shape.old 0 (shape_of (tree_of n e.now)) }
 {
-    write_spine(&e[..n], LeafNumber(0), shape, 0);
+    let from = Place {
+        leaf: LeafNumber(0),
+        at: 0,
+    };
+    write_spine(&e[..n], from, shape);
 }
 
-// The same tree from a shorter table: zeros stand behind its entries. A tree of at most SMALL carets.
-fn write_small(e: &[u16], n: usize, shape: &mut [u8])
+// The same tree from a shorter table, copied to N zeros, one or more for each caret.
+fn write_padded<const N: usize>(e: &[u16], n: usize, shape: &mut [u8])
     requires shape_fits { ShapeFits e.now n shape.old }
-    requires e_len_bound { (length e.now ≤ small_carets) × (n ≤ small_carets) }
+    requires e_len_bound { length e.now ≤ N }
+    requires n_bound { n ≤ N }
+    requires limit { N ≤ max_carets }
     ensures { shape.new ≡ sets shape.old 0 (shape_of (tree_of n e.now)) }
 {
-    let mut table = [0u16; SMALL];
-    copying::copy_front(e, &mut table, e.len());
-    write_whole(&table, n, shape);
-}
-
-// A tree of any number of carets.
-fn write_large(e: &[u16], n: usize, shape: &mut [u8])
-    requires { ShapeFits e.now n shape.old }
-    ensures { shape.new ≡ sets shape.old 0 (shape_of (tree_of n e.now)) }
-{
-    let mut table = [0u16; MAX_CARETS];
-    copying::copy_front(e, &mut table, e.len());
+    let mut table = [0u16; N];
+    table[..e.len()].copy_from_slice(e);
     write_whole(&table, n, shape);
 }
 
@@ -141,10 +130,10 @@ fn write_short(e: &[u16], n: usize, shape: &mut [u8])
     ensures { shape.new ≡ sets shape.old 0 (shape_of (tree_of n e.now)) }
 {
     if n <= SMALL {
-        write_small(e, n, shape);
-        return;
+        write_padded::<SMALL>(e, n, shape)
+    } else {
+        write_padded::<MAX_CARETS>(e, n, shape)
     }
-    write_large(e, n, shape);
 }
 
 // The tree with n carets and the exponents of a table, at the front of a buffer.
@@ -153,8 +142,8 @@ pub fn write_tree(e: &[u16], n: usize, shape: &mut [u8])
     ensures { shape.new ≡ sets shape.old 0 (shape_of (tree_of n e.now)) }
 {
     if e.len() < n {
-        write_short(e, n, shape);
-        return;
+        write_short(e, n, shape)
+    } else {
+        write_whole(e, n, shape)
     }
-    write_whole(e, n, shape);
 }

@@ -1,5 +1,5 @@
-// Zeros of a table of exponents, found by blocks. A block is gone through with no exit from the loop, so that the
-// compiler tests many entries at once.
+// Zeros of a table of exponents, found by blocks. A block is folded with no exit, so that the compiler tests many
+// entries at once.
 ghost use Rattle.std.specs.Prelude.{◌≡◌, true, ◌+◌, ◌≤◌, length};
 ghost use Rattle.trees.specs.inside.Zeros.{KnownZeros};
 
@@ -11,13 +11,7 @@ fn zero_block(e: &[u16], from: usize) -> bool
     requires { from + 64 ≤ length e.now }
     ensures { result ≡ true → KnownZeros e.now from 64 64 }
 {
-    let mut all: u16 = 0;
-    let mut i = 0;
-    while i < BLOCK {
-        all = all | e[from + i];
-        i += 1;
-    }
-    all == 0
+    e[from..from + BLOCK].iter().fold(0, |all, x| all | *x) == 0
 }
 
 // How many of the next `most` entries are known to be 0: all of them behind the table's end, a block, or none.
@@ -27,11 +21,8 @@ pub fn known_zeros(e: &[u16], from: usize, most: usize) -> usize
     if e.len() <= from {
         return most;
     }
-    if e.len() - from < BLOCK {
+    if e.len() - from < BLOCK || !zero_block(e, from) {
         return 0;
     }
-    if !zero_block(e, from) {
-        return 0;
-    }
-    if most < BLOCK { most } else { BLOCK }
+    most.min(BLOCK)
 }

@@ -2,13 +2,12 @@
 use mathlib.Core.Path.{◌≡◌, refl, sym, ap, subst}
 use mathlib.Core.List.{List}
 use Prim.Native.Nat.{ℕ}
-use Rattle.refusals.specs.declared.Refusal.{Refusal}
 use Rattle.updates.specs.declared.Account.{Account}
 use Rattle.updates.specs.declared.Entered.{Entered}
 use Rattle.updates.specs.declared.Entered.TheVariants as Answers
 use Rattle.updates.specs.declared.deciding.Place.{Place}
 use Rattle.updates.specs.declared.deciding.Decision.{Decision}
-use Rattle.updates.specs.declared.deciding.Decision.TheVariants.{New, Present, Refused}
+use Rattle.updates.specs.declared.deciding.Decision.TheVariants.{New, Present}
 use Rattle.updates.specs.Accounts.{raised}
 use Rattle.updates.specs.inside.Steps.{RoomFor, PutNew, Committable, Committed}
 
@@ -25,6 +24,3 @@ module _ {d : Decision} (bytes s : List ℕ) where
   present_committed {k} {a} {b} e h =
       subst (λ (q : Decision). Committed q bytes s s (Answers.Present k b)) (sym e)
       (refl, ap (λ (x : Account). Answers.Present k x) h)
-
-  pub refused_committed : {r : Refusal} → d ≡ Refused r → Committed d bytes s s (Answers.Refused r)
-  refused_committed {r} e = subst (λ (q : Decision). Committed q bytes s s (Answers.Refused r)) (sym e) (refl, refl)

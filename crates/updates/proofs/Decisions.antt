@@ -1,78 +1,31 @@
 -- The decision on a record, from the register's overview and the search: what it says of the form of the record.
 -- Assumes nothing.
 use mathlib.Core.Path.{◌≡◌, refl, sym, ap, ap₂, ◌∙◌, subst}
-use mathlib.Core.Bool.{Bool, true, false, cond}
 use mathlib.Core.List.{List, [], ◌∷◌}
-use mathlib.Core.Option.{Option, none, some}
-use Prim.Native.Nat.{ℕ, zero, suc, ◌+◌, ◌<◌, ◌≤◌}
+use mathlib.Core.Option.{Option as Maybe, none, some}
+use Prim.Native.Nat.{ℕ, suc, ◌+◌, ◌<◌, ◌≤◌}
 use native.Mathlib.Omega.{arith}
 use native.Mathlib.Decide.{dec_le}
-use lib.ListN.{length, drop}
+use lib.ListN.{length}
+use Rattle.std.specs.Prelude.{Option, None, Result, Ok, Err}
 use Rattle.group.specs.Forms.{Form}
 use Rattle.refusals.specs.declared.Refusal.{Refusal}
-use Rattle.refusals.specs.declared.Refusal.TheVariants.{BadRegister}
 use Rattle.refusals.specs.Outcomes.{Outcome, accepted, refused, then}
 use Rattle.refusals.proofs.Outcomes.{accepted_same, accepted_refused, refused_number, refused_place}
 use Rattle.records.specs.Format.{encode}
-use Rattle.registers.specs.Format.{Register, register_bytes, number_most, live_most, first_size}
-use Rattle.registers.specs.Reading.{ends, entry_size, entry_stands, number_in, holder_in, record_in, stored_in, entry_of}
-use Rattle.registers.specs.Reading.{read_entry, read_entries, sound, first_stands, read_register, live, number_for}
+use Rattle.registers.specs.Format.{Register, register_bytes, number_most, live_most}
+use Rattle.registers.specs.Reading.{read_register, live, number_for}
 use Rattle.registers.specs.Finding.{found}
 use Rattle.registers.specs.Answers.{overview, overview_in, summary_of, Summarised, search_of}
 use Rattle.registers.specs.declared.Overview.{Overview}
-use Rattle.registers.specs.declared.SummaryOf.{SummaryOf}
-use Rattle.registers.specs.declared.SummaryOf.TheVariants as Summaries
-use Rattle.registers.specs.declared.Search.{Search}
-use Rattle.registers.specs.declared.Search.TheVariants.{Nothing}
 use Rattle.registers.proofs.Written.{register_written}
 use Rattle.registers.proofs.Finding.{find_number}
 use Rattle.updates.specs.declared.deciding.Decision.{Decision}
-use Rattle.updates.specs.declared.deciding.Decision.TheVariants.{Refused}
 use Rattle.updates.specs.Accounts.{account_in}
 use Rattle.updates.specs.Entering.{grown, answered, entered}
 use Rattle.updates.specs.inside.Steps.{entry_length, settled, answered_form, DecidedAs, Judged}
 use Rattle.updates.proofs.Settling.{settled_full, settled_last, settled_short, settled_new}
 use Rattle.updates.proofs.Fitting.{entered_full, entered_last, entered_large, entered-fits}
-
--- An outcome that, where it refuses, refuses with 12.
-abbrev Only12 : {A : Type 0} → Outcome A → Type 0
-Only12 o = (n p : ℕ) → o ≡ refused n p → o ≡ refused 12 0
-
-only_then : {A B : Type 0} (o : Outcome A) (g : A → Outcome B) → Only12 o → ((x : A) → Only12 (g x))
-    → Only12 (then o g)
-only_then (accepted x) g h k n p e = k x n p e
-only_then (refused m q) g h k n p e = let so = h m q refl in cc
-
-only_cond : {A : Type 0} (b : Bool) (x y : Outcome A) → Only12 x → Only12 y → Only12 (cond b x y)
-only_cond true x y h k = h
-only_cond false x y h k = k
-
-only_accepted : {A : Type 0} (x : A) → Only12 (accepted x)
-only_accepted x n p e = absurd (accepted_refused e)
-
-only_12 : {A : Type 0} → Only12 {A = A} (refused 12 0)
-only_12 n p e = refl
-
-only_entry : (number holder : ℕ) (o : Outcome Form) → Only12 (entry_of number holder o)
-only_entry number holder (accepted f) = only_accepted _
-only_entry number holder (refused n p) = only_12
-
-only_entries : (k : ℕ) (s : List ℕ) → Only12 (read_entries k s)
-unfolding read_entries
-only_entries zero s = only_accepted []
-only_entries (suc k) s =
-    only_cond (ends s) (accepted []) _ (only_accepted [])
-    (only_then (read_entry s) _
-    (only_cond (entry_stands s) _ _ (only_entry (number_in s) (holder_in s) (stored_in (record_in s))) only_12)
-    (λ e. only_then (read_entries k (drop (entry_size s) s)) _ (only_entries k (drop (entry_size s) s))
-    (λ es. only_accepted (e ∷ es))))
-
-only_register : (s : List ℕ) → Only12 (read_register s)
-only_register s =
-    only_cond (first_stands s) _ _
-    (only_then (read_entries (length s) (drop first_size s)) _ (only_entries (length s) (drop first_size s))
-    (λ es. only_cond (sound _ es) _ _ (only_accepted _) only_12))
-    only_12
 
 -- What a filing of a form comes to in the register that was read.
 module _ (s : List ℕ) (h : ℕ) (f : Form) (r : Register) (reads : read_register s ≡ accepted r) where
@@ -82,7 +35,7 @@ module _ (s : List ℕ) (h : ℕ) (f : Form) (r : Register) (reads : read_regist
 
   module _ (new : number_for f r.entries ≡ none) where
     pub answered_new : answered_form s h f ≡ then (entered r (length s) h (f ∷ [])) (λ q. accepted (grown q))
-    answered_new = answered_read ∙ ap (λ (o : Option ℕ). answered o r (length s) h f) new
+    answered_new = answered_read ∙ ap (λ (o : Maybe ℕ). answered o r (length s) h f) new
 
     answered_refused : (n p : ℕ) → entered r (length s) h (f ∷ []) ≡ refused n p → answered_form s h f ≡ refused n p
     answered_refused n p e =
@@ -94,8 +47,8 @@ module _ (s : List ℕ) (h : ℕ) (f : Form) (r : Register) (reads : read_regist
     abbrev size : ℕ
     size = length (encode f)
 
-    abbrev decision : Decision
-    decision = settled Nothing (account_in h r) r.last end size (length s)
+    abbrev decision : Result Decision Refusal
+    decision = settled None (account_in h r) r.last end size (length s)
 
     -- Nothing is found: 13, 14, or a new entry.
     new_decided : DecidedAs f h s decision
@@ -105,7 +58,7 @@ module _ (s : List ℕ) (h : ℕ) (f : Form) (r : Register) (reads : read_regist
             → Dec (end + entry_length size ≤ length s) → DecidedAs f h s decision
         roomy few low (yes le) =
             subst (DecidedAs f h s)
-            (settled_new Nothing (account_in h r) r.last end size (length s) refl few (suc r.last) refl low le)
+            (settled_new None (account_in h r) r.last end size (length s) refl few (suc r.last) refl low le)
             (record {
               register = r;
               reads = reads;
@@ -117,25 +70,25 @@ module _ (s : List ℕ) (h : ℕ) (f : Form) (r : Register) (reads : read_regist
             })
         roomy few low (no gt) =
             subst (DecidedAs f h s)
-            (settled_short Nothing (account_in h r) r.last end size (length s) refl few (omega (arith, gt)))
+            (settled_short None (account_in h r) r.last end size (length s) refl few (omega (arith, gt)))
             (answered_refused 14 0 (entered_large r (length s) h f few (omega (arith, gt))))
 
         numbered : live h r.entries < live_most → Dec (number_most ≤ r.last) → DecidedAs f h s decision
         numbered few (yes le) =
             subst (DecidedAs f h s)
-            (settled_last Nothing (account_in h r) r.last end size (length s) refl few le)
+            (settled_last None (account_in h r) r.last end size (length s) refl few le)
             (answered_refused 14 0 (entered_last r (length s) h f few le))
         numbered few (no gt) = roomy few (omega (arith, gt)) (dec_le (end + entry_length size) (length s))
 
         go : Dec (live_most ≤ live h r.entries) → DecidedAs f h s decision
         go (yes le) =
             subst (DecidedAs f h s)
-            (settled_full Nothing (account_in h r) r.last end size (length s) refl le)
+            (settled_full None (account_in h r) r.last end size (length s) refl le)
             (answered_refused 13 0 (entered_full r (length s) h f le))
         go (no gt) = numbered (omega (arith, gt)) (dec_le number_most r.last)
 
   -- By what is found.
-  form_decided : (o : Option ℕ) → number_for f r.entries ≡ o
+  form_decided : (o : Maybe ℕ) → number_for f r.entries ≡ o
       → DecidedAs f h s
       (settled (search_of o) (account_in h r) r.last (length (register_bytes r)) (length (encode f)) (length s))
   form_decided (some k) e = record { register = r; reads = reads; has = e; account = refl }
@@ -159,12 +112,11 @@ overview_refused s h n p e = go (read_register s) refl e
     go (accepted r) m k = absurd (accepted_refused (sym k))
     go (refused a b) m k = m ∙ sym (ap₂ refused (refused_number k) (refused_place k))
 
-module _ {s : List ℕ} {h : ℕ} {q : SummaryOf} (bytes : List ℕ) (told : Summarised s h q) where
+module _ {s : List ℕ} {h : ℕ} {q : Result Overview Refusal} (bytes : List ℕ) (told : Summarised s h q) where
   -- No register.
-  pub judged_refused : {r : Refusal} → q ≡ Summaries.Refused r → Judged bytes h s (Refused BadRegister)
+  pub judged_refused : {r : Refusal} → q ≡ Err r → Judged bytes h s (Err r)
   judged_refused {r} e =
-      let so = overview_refused s h _ _ (sym (ap summary_of e) ∙ told.result) in
-      let bad = only_register s _ _ so in
+      let bad = overview_refused s h _ _ (sym (ap summary_of e) ∙ told.result) in
       record {
         are_bytes = told.are_bytes;
         decides = λ f is. ap
@@ -172,7 +124,7 @@ module _ {s : List ℕ} {h : ℕ} {q : SummaryOf} (bytes : List ℕ) (told : Sum
       }
 
   -- A register, and what is found in it.
-  pub judged_decides : {o : Overview} {found_so : Search} {d : Decision} → q ≡ Summaries.Register o
+  pub judged_decides : {o : Overview} {found_so : Option ℕ} {d : Result Decision Refusal} → q ≡ Ok o
       → found_so ≡ search_of (found s bytes)
       → d ≡ settled found_so (record { holder = h; live = o.live }) o.last o.end (length bytes) (length s)
       → Judged bytes h s d
@@ -186,11 +138,11 @@ module _ {s : List ℕ} {h : ℕ} {q : SummaryOf} (bytes : List ℕ) (told : Sum
               let w = register_written s r told.are_bytes reads in
               let looks : found_so ≡ search_of (number_for f r.entries) =
               looked ∙ ap (λ (l : List ℕ). search_of (found s l)) same ∙ ap search_of (find_number s r f w) in
-              let settles : Overview → Search → List ℕ → Decision =
+              let settles : Overview → Option ℕ → List ℕ → Result Decision Refusal =
               λ v x l. settled x (record { holder = h; live = v.live }) v.last v.end (length l) (length s) in
               subst (DecidedAs f h s)
               (sym
               (is ∙ ap (λ (v : Overview). settles v found_so bytes) over
-              ∙ ap (λ (x : Search). settles (overview h r) x bytes) looks
+              ∙ ap (λ (x : Option ℕ). settles (overview h r) x bytes) looks
               ∙ ap (λ (l : List ℕ). settles (overview h r) (search_of (number_for f r.entries)) l) same))
               (form_decided s h f r reads (number_for f r.entries) refl)

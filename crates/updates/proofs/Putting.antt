@@ -7,11 +7,12 @@ use native.Mathlib.Omega.{arith}
 use lib.ListN.{length, set, take, drop, length-set, length-take, length-drop}
 use lib.Seq.{sets, length-sets}
 use borrow.Author.Tests.{lt-ltb, le-ltb}
+use Rattle.std.specs.Prelude.{Result, Ok}
+use Rattle.refusals.specs.declared.Refusal.{Refusal}
 use Rattle.lists.specs.inside.Writes.{Wrote}
 use Rattle.lists.proofs.Writes.{write_then, wrote_same, write_part}
 use Rattle.fields.specs.Fields.{two_bytes, four_bytes, head_size}
-use Rattle.refusals.specs.declared.Reply.{Reply}
-use Rattle.refusals.specs.inside.Verdicts.{count_in}
+use Rattle.refusals.proofs.Answered.{count_in}
 use Rattle.refusals.specs.Placing.{Placed}
 use Rattle.records.specs.Exchange.{smaller_record}
 use Rattle.records.specs.inside.Exchanging.{smaller_in}
@@ -39,13 +40,13 @@ wrote_end j e w = record { ends = sym e ∙ w.ends; holds = w.holds }
 
 -- The parts of an entry, one behind another: tag, length, number and holder, then the smaller of the record and its
 -- exchange in the part behind them.
-pub entry_put : (k h : ℕ) (bytes s v y : List ℕ) {t u : List ℕ} {a b c : ℕ} (q : Reply) → Fitting bytes s
+pub entry_put : (k h : ℕ) (bytes s v y : List ℕ) {t u : List ℕ} {a b c n : ℕ} (q : Result ℕ Refusal) → q ≡ Ok n → Fitting bytes s
     → Wrote (two_bytes (entry_base + length bytes)) (set s 0 entry_tag) 1 t a → Wrote (four_bytes k) t a u b
     → Wrote (two_bytes h) u b v c
     → Placed (smaller_in bytes (take (length v - 9) (drop 9 v))) (take (length v - 9) (drop 9 v)) y q
     → Wrote (entry_field k h (smaller_record bytes)) s 0 (take 9 v ++ (y ++ drop (length v - 9) (drop 9 v)))
-    (9 + length bytes)
-entry_put k h bytes s v y {t} {u} {a} {b} {c} q fit one two three placed =
+    (9 + n)
+entry_put k h bytes s v y {t} {u} {a} {b} {c} {n} q is fit one two three placed =
     let long : length v ≡ length s =
     wrote_length three ∙ wrote_length two ∙ wrote_length one ∙ length-set s 0 entry_tag in
     let room : 9 + length bytes ≤ length v = omega (arith, fit.room) in
@@ -57,13 +58,15 @@ entry_put k h bytes s v y {t} {u} {a} {b} {c} q fit one two three placed =
     let nine : c ≡ 9 = omega (arith, one.ends, two.ends, three.ends) in
     let put = smaller_wrote bytes part q placed fit.framed (omega arith) in
     let count : count_in q ≡ length bytes = omega (arith, put.ends) in
-    write_then
+    let all : 9 + length bytes ≡ 9 + n = omega (arith, count, ap count_in is) in
+    wrote_end (9 + n) all
+    (write_then
     {a = entry_tag ∷ []}
     (record { ends = refl; holds = refl })
     (write_then (wrote_same (ap two_bytes size) one)
     (write_then two
     (write_then (wrote_end 9 nine three)
-    (write_part 9 stored v y (length bytes) (omega arith) (wrote_end (length bytes) count put)))))
+    (write_part 9 stored v y (length bytes) (omega arith) (wrote_end (length bytes) count put))))))
 
 -- All that a new entry writes.
 pub new_put : {p : Place} {bytes stored s t x y : List ℕ} {a n : ℕ} {r : Account} → RoomFor p bytes s

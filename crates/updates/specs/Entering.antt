@@ -4,11 +4,12 @@
 --     stored_form w       the form under which a word's element is kept  register_after   the buffer at exit
 --     EnteredWord        the contract of `enter_word` on every input
 -- Assumes nothing.
-use Rattle.std.specs.Prelude.{◌≡◌, cond, List, [], ◌∷◌, ◌++◌, ℕ, suc, ◌+◌, ◌<◌, length, ltb}
+use Rattle.std.specs.Prelude.{◌≡◌, cond, List, [], ◌∷◌, ◌++◌, ℕ, suc, ◌+◌, ◌<◌, length, ltb, Result, Ok, Err}
 use Rattle.std.proofs.Math.Option.{Option, none, some}
 use Rattle.group.specs.Letters.{Word}
 use Rattle.group.specs.Forms.{Form}
 use Rattle.group.specs.Products.{form_of}
+use Rattle.refusals.specs.declared.Refusal.{Refusal}
 use Rattle.refusals.specs.Outcomes.{Outcome, accepted, refused, after, then, valued, refusal}
 use Rattle.refusals.specs.Memory.{Memory}
 use Rattle.fields.specs.Fields.{Bytes}
@@ -19,7 +20,7 @@ use Rattle.registers.specs.Format.{Register, register_bytes, number_most, live_m
 use Rattle.registers.specs.Reading.{live, number_for, read_register}
 use Rattle.updates.specs.declared.Account.{Account}
 use Rattle.updates.specs.declared.Entered.{Entered}
-use Rattle.updates.specs.declared.Entered.TheVariants.{New, Present, Refused}
+use Rattle.updates.specs.declared.Entered.TheVariants.{New, Present}
 use Rattle.updates.specs.Accounts.{account_in}
 
 -- The form under which the element of a word is kept: of its form and the form with the sides exchanged, which is that
@@ -105,22 +106,22 @@ abbrev pub answer_of : (holder : ℕ) → Outcome Found → Outcome Answer
 answer_of h o = then o (λ x. accepted (record { reply = x.answer; account = account_in h x.register }))
 
 -- The outcome of each answer.
-abbrev pub entered_of : Entered → Outcome Answer
-entered_of (New k a) = accepted (record { reply = new_entry k; account = a })
-entered_of (Present k a) = accepted (record { reply = present k; account = a })
-entered_of (Refused r) = refusal r
+abbrev pub entered_of : Result Entered Refusal → Outcome Answer
+entered_of (Ok (New k a)) = accepted (record { reply = new_entry k; account = a })
+entered_of (Ok (Present k a)) = accepted (record { reply = present k; account = a })
+entered_of (Err r) = refusal r
 
 -- The same without the account, and with the entry's number alone.
-abbrev pub replied_of : Entered → Outcome Reply
+abbrev pub replied_of : Result Entered Refusal → Outcome Reply
 replied_of r = then (entered_of r) (λ x. accepted x.reply)
 
-abbrev pub number_of_entered : Entered → Outcome ℕ
+abbrev pub number_of_entered : Result Entered Refusal → Outcome ℕ
 number_of_entered r = valued (λ x. reply_number x.reply) (entered_of r)
 
 -- For every word, whatever is lent with it, every holder and every buffer: the answer with the holder's account in the
 -- register at exit; tables and record buffer as word to record leaves them, and untouched on a refusal; the register.
 -- A holder's number has two bytes, and what is lent are bytes.
-pub record EnteredWord (word : List ℕ) (entry exit : Memory) (holder : ℕ) (s s' : List ℕ) (r : Entered) : Type 0 where
+pub record EnteredWord (word : List ℕ) (entry exit : Memory) (holder : ℕ) (s s' : List ℕ) (r : Result Entered Refusal) : Type 0 where
   pub result : entered_of r ≡ answer_of holder (entered_in word entry s holder)
   pub leaves : Left (beside (judged_with word entry) (entered_in word entry s holder)) entry exit
   pub register : s' ≡ register_after (entered_in word entry s holder) s

@@ -4,12 +4,13 @@
 --     Run cs s t        the calls of a run, from s to t      Listing  the same filings on the plain list
 --     HistoryOf cs t    a run answers as the plain list, and the accounts sum to the new entries
 -- Assumes nothing.
-use Rattle.std.specs.Prelude.{◌≡◌, true, List, [], ◌∷◌, ◌++◌, ◌⊎◌, ℕ, suc, ◌+◌, ◌≤◌, length}
+use Rattle.std.specs.Prelude.{◌≡◌, true, List, [], ◌∷◌, ◌++◌, ◌⊎◌, ℕ, suc, ◌+◌, ◌≤◌, length, Result}
 use Rattle.lists.specs.Entries.{At, total}
 use Rattle.lists.specs.Tables.{values}
 use Rattle.group.specs.Letters.{Word, inverse}
 use Rattle.group.specs.Bytes.{bytes_of}
 use Rattle.group.specs.Chains.{Joined}
+use Rattle.refusals.specs.declared.Refusal.{Refusal}
 use Rattle.refusals.specs.Outcomes.{Outcome, accepted, refused}
 use Rattle.refusals.specs.Memory.{Memory}
 use Rattle.fields.specs.Fields.{four_bytes, field}
@@ -29,7 +30,7 @@ pub record Entering : Type 0 where
   pub entry : Memory
   pub exit : Memory
   pub holder : ℕ
-  pub answer : Entered
+  pub answer : Result Entered Refusal
 
 -- The call met its contract, and the register went from s to t.
 abbrev pub EnteredBy : Entering → (s t : List ℕ) → Type 0

@@ -1,17 +1,24 @@
 // What a filing comes to, found before anything that was lent is written.
-ghost use Rattle.std.specs.Prelude.{◌≡◌, ◌≤◌, length};
+ghost use Rattle.std.specs.Prelude.{◌≡◌, ◌≤◌, suc, length};
+ghost use Rattle.group.specs.Limits.{limit};
+ghost use Rattle.records.specs.Format.{buffer_size};
 ghost use Rattle.refusals.specs.Memory.{memory};
-ghost use Rattle.words.specs.inside.Lending.{small_letters};
 ghost use Rattle.updates.specs.inside.Steps.{settled, Judged, DecidedWith, Decided};
 
 use crate::Account;
 use records::BASE_SIZE;
 use refusals::{LIMIT, Refusal};
-use registers::{ENTRY_HEAD, LIVE_MOST, Search, SummaryOf};
+use registers::{ENTRY_HEAD, LIVE_MOST};
 use words::SMALL;
 
-// The highest entry number.
-const NUMBER_MOST: u32 = 4294967295;
+// The entries of a table and the bytes of a record, for a word of at most SMALL letters and for every word.
+const SMALL_ENTRIES: usize = SMALL + 1;
+
+const SMALL_BYTES: usize = BASE_SIZE + 4 * SMALL;
+
+const ENTRIES: usize = LIMIT + 1;
+
+const BYTES: usize = BASE_SIZE + 4 * LIMIT;
 
 // A new entry: its number, where it goes, and its holder's account before it.
 #[derive(Clone, Copy)]
@@ -21,64 +28,58 @@ pub struct Place {
     pub account: Account,
 }
 
-// A new entry, the entry that holds the element, or a refusal.
+// A new entry, or the entry that holds the element, with the account before the filing.
 #[derive(Clone, Copy)]
 pub enum Decision {
     New(Place),
     Present(u32, Account),
-    Refused(Refusal),
 }
 
 // The entry that holds the element, else 13, else 14, else a new entry: `n` bytes of record, `length` of the buffer.
 fn settle(
-    search: Search,
+    search: Option<u32>,
     account: Account,
     last: u32,
     end: usize,
     n: usize,
     length: usize,
-) -> Decision
+) -> Result<Decision, Refusal>
     ensures { result ≡ settled search account last end n length }
 {
-    if let Search::Number(k) = search {
-        return Decision::Present(k, account);
+    if let Some(k) = search {
+        return Ok(Decision::Present(k, account));
     }
     if LIVE_MOST <= account.live {
-        return Decision::Refused(Refusal::HolderFull);
+        return Err(Refusal::HolderFull);
     }
-    if last == NUMBER_MOST {
-        return Decision::Refused(Refusal::RegisterFull);
+    let number = last.checked_add(1).ok_or(Refusal::RegisterFull)?;
+    if length < end || length - end < n || length - end - n < ENTRY_HEAD {
+        return Err(Refusal::RegisterFull);
     }
-    if length < end {
-        return Decision::Refused(Refusal::RegisterFull);
-    }
-    if length - end < n {
-        return Decision::Refused(Refusal::RegisterFull);
-    }
-    if length - end - n < ENTRY_HEAD {
-        return Decision::Refused(Refusal::RegisterFull);
-    }
-    Decision::New(Place {
-        number: last + 1,
+    Ok(Decision::New(Place {
+        number,
         end,
         account,
-    })
+    }))
 }
 
 // The same of a record and the bytes of a register: 12 first.
-fn judge(record: &[u8], holder: u16, register: &[u8]) -> Decision
+fn judge(record: &[u8], holder: u16, register: &[u8]) -> Result<Decision, Refusal>
     ensures { Judged «record».now holder register.now result }
 {
-    let summary = registers::summary(register, holder);
-    let SummaryOf::Register(o) = summary else {
-        return Decision::Refused(Refusal::BadRegister);
-    };
-    let search = registers::find(register, record);
+    let o = registers::summary(register, holder)?;
     let account = Account {
         holder,
         live: o.live,
     };
-    settle(search, account, o.last, o.end, record.len(), register.len())
+    settle(
+        registers::find(register, record),
+        account,
+        o.last,
+        o.end,
+        record.len(),
+        register.len(),
+    )
 }
 
 // The same of a word, whose record is written into the tables and the buffer lent, and the one that a register stores,
@@ -91,45 +92,30 @@ fn judge_word(
     a: &mut [u16],
     own: &mut [u8],
     stored: &mut [u8],
-) -> Decision
+) -> Result<Decision, Refusal>
     ensures { DecidedWith word.now (memory b.old a.old own.old)
         (length stored.old) holder register.now result }
 {
-    let reply = words::word_to_record(word, b, a, own);
-    let n = refusals::count_of(reply);
-    let smaller = records::put_smaller(&own[..n], stored);
-    let m = refusals::count_of(smaller);
+    let n = words::word_to_record(word, b, a, own)?;
+    let m = records::put_smaller(&own[..n], stored)?;
     judge(&stored[..m], holder, register)
 }
 
-// What a filing of an accepted word of at most SMALL letters comes to.
-fn decide_small(word: &[u8], holder: u16, register: &[u8]) -> Decision
-    requires { length word.now ≤ small_letters }
+// What a filing of an accepted word comes to, by own arrays of these sizes.
+fn decide_sized<const ENTRIES: usize, const BYTES: usize>(
+    word: &[u8],
+    holder: u16,
+    register: &[u8],
+) -> Result<Decision, Refusal>
+    requires room { length word.now ≤ limit → (suc (length word.now) ≤ ENTRIES) ×
+        (buffer_size (length word.now) ≤ BYTES) }
+    requires size { (ENTRIES ≤ suc limit) × (BYTES ≤ buffer_size limit) }
     ensures { Decided word.now holder register.now result }
 {
-    let mut b = [0u16; SMALL + 1];
-    let mut a = [0u16; SMALL + 1];
-    let mut own = [0u8; BASE_SIZE + 4 * SMALL];
-    let mut stored = [0u8; BASE_SIZE + 4 * SMALL];
-    judge_word(
-        word,
-        holder,
-        register,
-        &mut b,
-        &mut a,
-        &mut own,
-        &mut stored,
-    )
-}
-
-// What a filing of an accepted word of any length comes to.
-fn decide_large(word: &[u8], holder: u16, register: &[u8]) -> Decision
-    ensures { Decided word.now holder register.now result }
-{
-    let mut b = [0u16; LIMIT + 1];
-    let mut a = [0u16; LIMIT + 1];
-    let mut own = [0u8; BASE_SIZE + 4 * LIMIT];
-    let mut stored = [0u8; BASE_SIZE + 4 * LIMIT];
+    let mut b = [0u16; ENTRIES];
+    let mut a = [0u16; ENTRIES];
+    let mut own = [0u8; BYTES];
+    let mut stored = [0u8; BYTES];
     judge_word(
         word,
         holder,
@@ -142,11 +128,12 @@ fn decide_large(word: &[u8], holder: u16, register: &[u8]) -> Decision
 }
 
 // What a filing of an accepted word comes to.
-pub fn decide(word: &[u8], holder: u16, register: &[u8]) -> Decision
+pub fn decide(word: &[u8], holder: u16, register: &[u8]) -> Result<Decision, Refusal>
     ensures { Decided word.now holder register.now result }
 {
     if word.len() <= SMALL {
-        return decide_small(word, holder, register);
+        decide_sized::<SMALL_ENTRIES, SMALL_BYTES>(word, holder, register)
+    } else {
+        decide_sized::<ENTRIES, BYTES>(word, holder, register)
     }
-    decide_large(word, holder, register)
 }

@@ -6,7 +6,7 @@ ghost use Rattle.registers.specs.Format.{entry_field};
 ghost use Rattle.updates.specs.inside.Steps.{end_marked, Fitting, RoomFor, PutNew, Committable, Committed};
 
 use crate::Entered;
-use crate::accounts::charged;
+use crate::accounts::charge;
 use crate::deciding::{Decision, Place};
 use fields::HEAD_SIZE;
 use fields::integers::{put_four, put_two};
@@ -22,8 +22,7 @@ fn put_entry(number: u32, holder: u16, record: &[u8], out: &mut [u8]) -> usize
     let a = put_two(out, 1, ENTRY_BASE + record.len());
     let b = put_four(out, a, number as usize);
     put_two(out, b, holder as usize);
-    records::put_smaller(record, &mut out[ENTRY_HEAD..]);
-    ENTRY_HEAD + record.len()
+    ENTRY_HEAD + records::put_smaller(record, &mut out[ENTRY_HEAD..]).unwrap()
 }
 
 // The byte 00 at a place, if there is one.
@@ -41,13 +40,12 @@ fn put_new(p: Place, record: &[u8], register: &mut [u8]) -> Entered
     ensures { PutNew p (smaller_record «record».now) register.old
         register.new result }
 {
-    let number = p.number;
-    let end = p.end;
-    let account = p.account;
-    put_four(register, HEAD_SIZE, number as usize);
-    let n = put_entry(number, account.holder, record, &mut register[end..]);
-    put_mark(end + n, register);
-    Entered::New(number, charged(account, 1))
+    put_four(register, HEAD_SIZE, p.number as usize);
+    let n = put_entry(p.number, p.account.holder, record, &mut register[p.end..]);
+    put_mark(p.end + n, register);
+    let mut account = p.account;
+    charge(&mut account, 1);
+    Entered::New(p.number, account)
 }
 
 // The register and the answer, by what was decided.
@@ -58,7 +56,9 @@ pub fn commit(decision: Decision, record: &[u8], register: &mut [u8]) -> Entered
 {
     match decision {
         Decision::New(p) => put_new(p, record, register),
-        Decision::Present(k, account) => Entered::Present(k, charged(account, 0)),
-        Decision::Refused(r) => Entered::Refused(r),
+        Decision::Present(k, mut account) => {
+            charge(&mut account, 0);
+            Entered::Present(k, account)
+        }
     }
 }

@@ -3,7 +3,5 @@ pub mod Lines
 pub mod Items
 pub mod Sizes
 pub mod Tables
--- what is refused, and the loop over the lines
-pub mod ListJudged
-pub mod Refusing
+-- the loop over the lines
 pub mod Putting

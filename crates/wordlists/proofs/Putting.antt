@@ -1,12 +1,13 @@
 -- The items of lines, put one behind another: one line's item, and the loop over the lines, in which what is left gives
 -- the whole. Assumes nothing.
 use mathlib.Core.Path.{◌≡◌, refl, sym, ap, subst, ◌∙◌}
-use mathlib.Core.List.{List, [], ◌∷◌, ◌++◌}
+use mathlib.Core.List.{List, ◌∷◌, ◌++◌}
 use Prim.Native.Nat.{ℕ, ◌+◌, ◌-◌, ◌≤◌, ◌<◌}
 use native.Mathlib.Omega.{arith}
-use lib.ListN.{length, take, drop, length-take, length-drop}
+use lib.ListN.{length, take, drop, length-take, length-drop, length-append}
+use Rattle.std.specs.Prelude.{Result, Ok, Err}
 use Rattle.lists.specs.inside.Writes.{Wrote, Writing}
-use Rattle.lists.proofs.Writes.{wrote_same, write_part, write_then, write_start, write_more, writing_same}
+use Rattle.lists.proofs.Writes.{wrote_same, write_part, write_start, write_more, writing_same}
 use Rattle.lists.proofs.Writes.{write_done}
 use Rattle.lines.specs.Lines.{lines_of}
 use Rattle.lines.specs.LineEnds.{line_end_value}
@@ -15,11 +16,8 @@ use Rattle.group.specs.Letters.{Word}
 use Rattle.group.specs.Forms.{Side, b_side, a_side}
 use Rattle.group.specs.Limits.{limit}
 use Rattle.refusals.specs.declared.Refusal.{Refusal}
-use Rattle.refusals.specs.declared.Reply.{Reply}
-use Rattle.refusals.specs.declared.Reply.TheVariants.{Number, Refused}
 use Rattle.refusals.specs.Refusals.{number_of, place_of}
 use Rattle.refusals.specs.Outcomes.{Outcome, refused, reply_of}
-use Rattle.refusals.specs.inside.Verdicts.{count_in}
 use Rattle.refusals.specs.Memory.{Memory, memory}
 use Rattle.refusals.proofs.Outcomes.{valued_refused, valued_accepted}
 use Rattle.fields.specs.Fields.{two_bytes, field}
@@ -43,76 +41,70 @@ part_length at s = omega (arith, length-take (length s - at) (drop at s), length
 abbrev pub back : ℕ → (s part : List ℕ) → List ℕ
 back at s part = take at s ++ (part ++ drop (length s - at) (drop at s))
 
--- The call on the word of a line, lent the output from a place on.
-module _ {line b a out : List ℕ} {at : ℕ} (room : ItemRoom line (memory b a out) at) {b' a' part' : List ℕ} {q : Reply}
-    (called : Recorded line (memory b a (part_from at out)) (memory b' a' part') q) where
-  read : judged_with line (memory b a (part_from at out)) ≡ line_read line
-  read =
-      judged_line line (memory b a (part_from at out)) room.tables.b_long room.tables.a_long
-      (omega (arith, room.roomy, part_length at out))
+back_length : (at : ℕ) (s part : List ℕ) → at ≤ length s → length part ≡ length (part_from at s)
+    → length (back at s part) ≡ length s
+back_length at s part le e =
+    omega (
+      arith,
+      e,
+      part_length at s,
+      length-append (take at s) (part ++ drop (length s - at) (drop at s)),
+      length-append part (drop (length s - at) (drop at s)),
+      length-take at s,
+      length-drop (length s - at) (drop at s),
+      length-drop at s,
+    )
+
+-- The call on the word of a line.
+module _ {line b a out : List ℕ} (room : ItemRoom line (memory b a out)) {b' a' out' : List ℕ} {q : Result ℕ Refusal}
+    (called : Recorded line (memory b a out) (memory b' a' out') q) where
+  read : judged_with line (memory b a out) ≡ line_read line
+  read = judged_line line (memory b a out) room.tables.b_long room.tables.a_long room.roomy
 
   answered : reply_of q ≡ count_record (line_read line)
   answered = called.result ∙ ap (λ (o : Outcome Word). count_record o) read
 
-  left : Left (line_read line) (memory b a (part_from at out)) (memory b' a' part')
-  left = subst (λ (o : Outcome Word). Left o (memory b a (part_from at out)) (memory b' a' part')) read called.leaves
+  left : Left (line_read line) (memory b a out) (memory b' a' out')
+  left = subst (λ (o : Outcome Word). Left o (memory b a out) (memory b' a' out')) read called.leaves
 
-  within : at ≤ length out
-  within = omega (arith, room.roomy)
-
-  -- A record was written into the part, of k bytes.
-  pub item_written : {n k : ℕ} → q ≡ Number n → k ≡ count_in q
-      → ItemPut line (memory b a out) at (memory b' a' (back at out part')) (at + k)
-  item_written {n} {k} e f =
-      let same : k ≡ n = f ∙ ap count_in e in
+  -- A record was written, of n bytes.
+  pub item_written : {n : ℕ} → q ≡ Ok n → ItemPut line (memory b a out) (memory b' a' out') n
+  item_written {n} e =
       let (w, o, c) = valued_accepted _ (line_read line) n (sym answered ∙ ap reply_of e) in
-      let inside : Wrote (encode_word w) (part_from at out) 0 part' k = record {
+      let inside : Wrote (encode_word w) out 0 out' n = record {
         ends = omega (arith, c);
-        holds = left.bytes ∙ ap (λ (p : Outcome Word). buffer_after p (part_from at out)) o;
+        holds = left.bytes ∙ ap (λ (p : Outcome Word). buffer_after p out) o;
       } in
-      record {
-        b_table = left.b_table;
-        a_table = left.a_table;
-        bytes = wrote_same (sym (ap item o)) (write_part at (encode_word w) out part' k within inside);
-      }
-
-  -- It ends inside the output.
-  pub item_within : {n k : ℕ} → q ≡ Number n → k ≡ count_in q → at + k ≤ length out
-  item_within e f = omega (arith, (item_written e f).bytes.ends, item_size_lem line, room.roomy)
+      record { b_table = left.b_table; a_table = left.a_table; bytes = wrote_same (sym (ap item o)) inside }
 
   -- The word was refused, and nothing was written.
-  module _ (x : Refusal) (e : q ≡ Refused x) where
+  module _ (x : Refusal) (e : q ≡ Err x) where
     refused_so : line_read line ≡ refused (number_of x) (place_of x)
     refused_so = valued_refused _ (line_read line) (number_of x) (place_of x) (sym answered ∙ ap reply_of e)
 
     pub refusal-place : place_of x < 65536
     refusal-place = omega (arith, (read_refused line (number_of x) (place_of x) refused_so).1)
 
-    unwritten : Wrote [] out at (back at out part') (at + 0)
-    unwritten =
-        write_part at [] out part' 0 within
-        (record {
-          ends = refl;
-          holds = left.bytes ∙ ap (λ (p : Outcome Word). buffer_after p (part_from at out)) refused_so;
-        })
+    unwritten : out' ≡ out
+    unwritten = left.bytes ∙ ap (λ (p : Outcome Word). buffer_after p out) refused_so
 
     -- There is room for its item.
-    pub refusal_room : at + item_size ≤ length (back at out part')
-    refusal_room = omega (arith, ap length unwritten.holds, room.roomy)
+    pub refusal_room : item_size ≤ length out'
+    refusal_room = omega (arith, ap length unwritten, room.roomy)
 
-    -- Its item was put behind.
-    pub item_refused : {out' : List ℕ} {end : ℕ}
-        → Wrote (field refused_tag (number_of x ∷ two_bytes (place_of x))) (back at out part') at out' end
-        → ItemPut line (memory b a out) at (memory b' a' out') end
-    item_refused {out'} {end} w =
-        let same : at + 0 ≡ at = omega arith in
-        record {
-          b_table = left.b_table;
-          a_table = left.a_table;
-          bytes =
-              wrote_same (sym (ap item refused_so))
-              (write_then (subst (Wrote [] out at (back at out part')) same unwritten) w);
-        }
+    -- Its item was put in its place.
+    pub item_refused : {out'' : List ℕ} {end : ℕ}
+        → Wrote (field refused_tag (number_of x ∷ two_bytes (place_of x))) out' 0 out'' end
+        → ItemPut line (memory b a out) (memory b' a' out'') end
+    item_refused {out''} {end} w = record {
+      b_table = left.b_table;
+      a_table = left.a_table;
+      bytes =
+          wrote_same (sym (ap item refused_so))
+          (subst (λ (s : List ℕ). Wrote (field refused_tag (number_of x ∷ two_bytes (place_of x))) s 0 out'' end)
+          unwritten
+          w);
+    }
 
 -- The loop at its test: the lines from `at` on are left.
 pub record Putting (list : List ℕ) (entry now : Memory) (at written : ℕ) : Type 0 where
@@ -152,13 +144,17 @@ module _ {list : List ℕ} {entry m : Memory} {at written : ℕ} (p : Putting li
         lines_cut list at more
         ∙ ap (λ (e : ℕ). take (e - at) (drop at list) ∷ lines_of (drop (e + 1) list)) (sym here)
 
-    pub putting_room : ItemRoom line m written
+    -- What is lent with the line: the output from the place on that is reached.
+    abbrev lent : Memory
+    lent = memory m.b m.a (part_from written m.buffer)
+
+    pub putting_room : ItemRoom line lent
     putting_room = record {
       tables = record {
         b_long = omega (arith, p.tables.b_long, p.b_same);
         a_long = omega (arith, p.tables.a_long, p.a_same);
       };
-      roomy = omega (arith, p.roomy, ap list_size cut);
+      roomy = omega (arith, p.roomy, ap list_size cut, part_length written m.buffer);
     }
 
     -- The tables behind the line are as long.
@@ -166,13 +162,23 @@ module _ {list : List ℕ} {entry m : Memory} {at written : ℕ} (p : Putting li
         → length t' ≡ length t
     long s t h e = ap length e ∙ line_table-length s line t h
 
-    pub putting_more : {m' : Memory} {written' : ℕ} → length m'.buffer ≡ length m.buffer
-        → ItemPut line m written m' written' → Putting list entry m' (end + 1) written'
-    putting_more {m'} {written'} e i = record {
+    -- Its bytes, in the whole output.
+    whole : {exit : Memory} {n : ℕ} → ItemPut line lent exit n
+        → Wrote (item (line_read line)) m.buffer written (back written m.buffer exit.buffer) (written + n)
+    whole {exit} {n} i =
+        write_part written (item (line_read line)) m.buffer exit.buffer n (omega (arith, p.roomy)) i.bytes
+
+    -- It ends inside the output.
+    pub putting_within : {exit : Memory} {n : ℕ} → ItemPut line lent exit n → written + n ≤ length m.buffer
+    putting_within i = omega (arith, i.bytes.ends, item_size_lem line, p.roomy, ap list_size cut)
+
+    pub putting_more : {exit : Memory} {n : ℕ} → length exit.buffer ≡ length lent.buffer → ItemPut line lent exit n
+        → Putting list entry (memory exit.b exit.a (back written m.buffer exit.buffer)) (end + 1) (written + n)
+    putting_more {exit} {n} e i = record {
       tables = p.tables;
       b_same = long b_side m.b putting_room.tables.b_long i.b_table ∙ p.b_same;
       a_same = long a_side m.a putting_room.tables.a_long i.a_table ∙ p.a_same;
-      out_same = e ∙ p.out_same;
+      out_same = back_length written m.buffer exit.buffer (omega (arith, p.roomy)) e ∙ p.out_same;
       b_left =
           ap (tables_then b_side rest) i.b_table
           ∙ sym (ap (λ (ls : List (List ℕ)). tables_then b_side ls m.b) cut)
@@ -181,8 +187,16 @@ module _ {list : List ℕ} {entry m : Memory} {at written : ℕ} (p : Putting li
           ap (tables_then a_side rest) i.a_table
           ∙ sym (ap (λ (ls : List (List ℕ)). tables_then a_side ls m.a) cut)
           ∙ p.a_left;
-      roomy = omega (arith, p.roomy, ap list_size cut, i.bytes.ends, item_size_lem line);
-      bytes = write_more i.bytes (writing_same (ap items cut) p.bytes);
+      roomy =
+          omega (
+            arith,
+            p.roomy,
+            ap list_size cut,
+            i.bytes.ends,
+            item_size_lem line,
+            back_length written m.buffer exit.buffer (omega (arith, p.roomy)) e,
+          );
+      bytes = write_more (whole i) (writing_same (ap items cut) p.bytes);
     }
 
   -- No line is left.

@@ -2,9 +2,14 @@
 -- ends of line left out". Assumes nothing.
 use mathlib.Core.Path.{◌≡◌, refl}
 use mathlib.Core.List.{List, [], ◌∷◌}
-use Prim.Native.Nat.{ℕ, ◌+◌, ◌*◌, ◌≤◌}
+use mathlib.Core.Path.{sym, ◌∙◌}
+use mathlib.Core.Bool.{true}
+use Prim.Native.Nat.{ℕ, ◌+◌, ◌-◌, ◌*◌, ◌/◌, ◌<◌, ◌≤◌}
+use native.Mathlib.Decide.{dec_lt}
 use native.Mathlib.Omega.{arith}
 use lib.ListN.{length, length-append}
+use lib.Dec.{ltb}
+use borrow.Author.Tests.{lt-ltb, le-ltb}
 use Rattle.lines.specs.Lines.{line_bytes}
 use Rattle.group.specs.Letters.{Word}
 use Rattle.group.specs.Products.{form_of}
@@ -38,3 +43,17 @@ items_size (l ∷ ls) = omega (arith, length-append (item (line_read l)) (items 
 pub list_size_lem : (ls : List (List ℕ)) → list_size ls ≡ base_size * length ls + 4 * line_bytes ls
 list_size_lem [] = refl
 list_size_lem (l ∷ ls) = omega (arith, list_size_lem ls)
+
+-- The output's test, by the lines and their bytes: n lines, k bytes.
+module _ (ls : List (List ℕ)) (out n k : ℕ) (en : n ≡ length ls) (ek : k ≡ line_bytes ls) where
+  -- It is too short for 6 bytes a line.
+  pub short_lines : out / base_size < n → true ≡ ltb out (list_size ls)
+  short_lines h = sym (lt-ltb out (list_size ls) (omega (arith, list_size_lem ls)))
+
+  -- It is not, and what is left of it decides.
+  pub short_bytes : n ≤ out / base_size → ltb ((out - base_size * n) / 4) k ≡ ltb out (list_size ls)
+  short_bytes h = go (dec_lt out (list_size ls))
+    where
+      go : Dec (out < list_size ls) → ltb ((out - base_size * n) / 4) k ≡ ltb out (list_size ls)
+      go (yes p) = lt-ltb _ k (omega (arith, list_size_lem ls)) ∙ sym (lt-ltb out (list_size ls) p)
+      go (no p) = le-ltb _ k (omega (arith, list_size_lem ls)) ∙ sym (le-ltb out (list_size ls) (omega arith))

@@ -3,13 +3,13 @@
 --     list_judged   the lines of a list, or what is refused of the tables and the output lent with it
 --     Listed       the contract of `list_to_records`
 -- Assumes nothing.
-use Rattle.std.specs.Prelude.{◌≡◌, cond, List, ℕ, suc, length, ltb}
+use Rattle.std.specs.Prelude.{◌≡◌, cond, List, ℕ, suc, length, ltb, Result}
+use Rattle.refusals.specs.declared.Refusal.{Refusal}
 use Rattle.lines.specs.Lines.{lines_of}
 use Rattle.group.specs.Forms.{Side, b_side, a_side}
 use Rattle.group.specs.Limits.{limit}
 use Rattle.refusals.specs.Outcomes.{Outcome, accepted, refused, after, then}
 use Rattle.refusals.specs.Placing.{Placed}
-use Rattle.refusals.specs.declared.Reply.{Reply}
 use Rattle.refusals.specs.Memory.{Memory}
 use Rattle.wordlists.specs.Items.{items, list_size, tables_then}
 
@@ -35,7 +35,7 @@ items_in o = then o (λ ls. accepted (items ls))
 
 -- For every list and whatever is lent with it: the items stand at the front of the output and are counted; every byte
 -- behind them is unchanged, also inside the size that the output needs.
-pub record Listed (list : List ℕ) (entry exit : Memory) (r : Reply) : Type 0 where
+pub record Listed (list : List ℕ) (entry exit : Memory) (r : Result ℕ Refusal) : Type 0 where
   pub b_table : exit.b ≡ table_behind b_side (list_judged_with list entry) entry.b
   pub a_table : exit.a ≡ table_behind a_side (list_judged_with list entry) entry.a
   pub output : Placed (items_in (list_judged_with list entry)) entry.buffer exit.buffer r

@@ -9,9 +9,9 @@ ghost use Rattle.refusals.specs.Memory.{memory};
 ghost use Rattle.wordlists.specs.Items.{list_size};
 ghost use Rattle.wordlists.specs.Listing.{list_judged, Listed};
 
-use forest::{CELLS, ROOM};
+use forest::Scratch;
 use records::BASE_SIZE;
-use refusals::{LIMIT, Refusal, Reply, Verdict};
+use refusals::{LIMIT, Refusal};
 
 mod writing;
 
@@ -21,28 +21,27 @@ fn is_short(list: &[u8], out: usize) -> bool
     ensures { result ≡ ltb out (list_size (lines_of list.now)) }
 {
     let counted = lines::count_lines(list);
-    if out / BASE_SIZE < counted.lines {
-        return true;
-    }
-    (out - BASE_SIZE * counted.lines) / 4 < counted.bytes
+    out / BASE_SIZE < counted.lines || (out - BASE_SIZE * counted.lines) / 4 < counted.bytes
 }
 
 // Refusals 6 and 7, in this order, before the first word is read; the lengths are those of the two tables and of the
 // output.
-pub fn judge_list(list: &[u8], b_length: usize, a_length: usize, out_length: usize) -> Verdict
+pub fn judge_list(
+    list: &[u8],
+    b_length: usize,
+    a_length: usize,
+    out_length: usize,
+) -> Result<(), Refusal>
     ensures { verdict_of result ≡ drop_value (list_judged list.now b_length a_length
         out_length) }
 {
-    if b_length < LIMIT + 1 {
-        return Verdict::Refused(Refusal::ShortTable);
-    }
-    if a_length < LIMIT + 1 {
-        return Verdict::Refused(Refusal::ShortTable);
+    if b_length < LIMIT + 1 || a_length < LIMIT + 1 {
+        return Err(Refusal::ShortTable);
     }
     if is_short(list, out_length) {
-        return Verdict::Refused(Refusal::ShortBuffer);
+        return Err(Refusal::ShortBuffer);
     }
-    Verdict::Accepted
+    Ok(())
 }
 
 // Many words in one call: the items of the lines at the front of the output, the tables as one call a word leaves them,
@@ -52,25 +51,12 @@ pub fn list_to_records(
     b_table: &mut [u16],
     a_table: &mut [u16],
     records: &mut [u8],
-) -> Reply
+) -> Result<usize, Refusal>
     ensures { Listed list.now
         (memory b_table.old a_table.old records.old)
         (memory b_table.new a_table.new records.new) result }
 {
-    let verdict = judge_list(list, b_table.len(), a_table.len(), records.len());
-    if let Verdict::Refused(r) = verdict {
-        return Reply::Refused(r);
-    }
-    let mut lefts = [0u16; CELLS];
-    let mut rights = [0u16; CELLS];
-    let mut stack = [0u16; ROOM];
-    Reply::Number(writing::put_items(
-        list,
-        b_table,
-        a_table,
-        records,
-        &mut lefts,
-        &mut rights,
-        &mut stack,
-    ))
+    judge_list(list, b_table.len(), a_table.len(), records.len())?;
+    let mut scratch = Scratch::new();
+    Ok(writing::put_items(list, b_table, a_table, records, &mut scratch))
 }

@@ -8,6 +8,9 @@ use native.Mathlib.Omega.{arith}
 use lib.ListN.{length, take}
 use lib.Seq.{sets}
 use borrow.Author.Tests.{le-ltb}
+use Rattle.std.specs.Prelude.{Result, Ok, Err}
+use Rattle.refusals.specs.declared.Failure.{Failure}
+use Rattle.refusals.specs.declared.Failure.TheVariants.{Refused, Unfit}
 use Rattle.lists.specs.Tables.{values, filled}
 use Rattle.lists.proofs.Tables.{values_length, filled_front}
 use Rattle.group.specs.Letters.{Word}
@@ -21,21 +24,15 @@ use Rattle.refusals.specs.Outcomes.{Outcome, accepted, refused, after, valued}
 use Rattle.refusals.specs.Memory.{memory}
 use Rattle.refusals.proofs.Outcomes.{accepted_refused, drop_accepted, drop_refused}
 use Rattle.records.specs.Format.{buffer_size, record_of}
-use Rattle.encoding.specs.inside.Contracts.{bytes_written_value, encode_tables, Encoded}
-use Rattle.encoding.specs.declared.Encoding.{Encoding}
-use Rattle.encoding.proofs.WriteAnswers.{bytes_written_lem}
+use Rattle.encoding.specs.inside.Contracts.{encoding_of, encode_tables, Encoded}
 use Rattle.records.proofs.FormTables.{record_values}
 use Rattle.records.proofs.Lengths.{encode_size}
 use Rattle.letters.specs.Judging.{judged}
 use Rattle.letters.proofs.Judged.{Fit, accepted_fit}
 use Rattle.forest.specs.Filling.{table_after}
 use Rattle.forest.specs.inside.Filling.{fits, judged_in, filling_of, FilledTables}
-use Rattle.forest.specs.declared.Filling.{Filling}
-use Rattle.forest.specs.declared.Filling.TheVariants.{Filled, Refused as NotFilled, Unfit as NoScratch}
 use Rattle.words.specs.Recording.{encode_word, count_record, buffer_after}
-use Rattle.words.specs.inside.Lending.{recording_of, tested_by, judged_within, RecordedWith, unfilled_by}
-use Rattle.words.specs.declared.Recording.{Recording}
-use Rattle.words.specs.declared.Recording.TheVariants.{Bytes}
+use Rattle.words.specs.inside.Lending.{recording_of, tested_by, judged_within, RecordedWith}
 use Rattle.words.proofs.Judged.{judged_roomy}
 
 -- Accepted behind a test, which is passed then.
@@ -43,7 +40,13 @@ pub tested_accepted : (ok : Bool) (o : Outcome Word) (w : Word) → tested_by ok
 tested_accepted true o w h = h
 tested_accepted false o w h = absurd (accepted_refused (sym h))
 
-module _ {word b a lefts rights stack b' a' lefts' rights' stack' : List ℕ} {f : Filling} (buffer : List ℕ)
+-- The writer's answers stand for what the call's do.
+as_encoding : (r : Result ℕ Failure) → recording_of r ≡ encoding_of r
+as_encoding (Ok n) = refl
+as_encoding (Err (Refused x)) = refl
+as_encoding (Err Unfit) = refl
+
+module _ {word b a lefts rights stack b' a' lefts' rights' stack' : List ℕ} {f : Result ℕ Failure} (buffer : List ℕ)
     (roomy : buffer_size (length word) ≤ length buffer)
     (t : FilledTables word b a lefts rights stack b' a' lefts' rights' stack' f) where
   -- With room for the record, the call judges as the engine does.
@@ -52,7 +55,7 @@ module _ {word b a lefts rights stack b' a' lefts' rights' stack' : List ℕ} {f
       ap (tested_by (fits word lefts rights stack)) (judged_roomy word (length b) (length a) (length buffer) roomy)
 
   -- What the engine refuses.
-  pub engine_refuses : (n p : ℕ) → filling_of f ≡ refused n p → (r : Recording) → recording_of r ≡ refused n p
+  pub engine_refuses : (n p : ℕ) → filling_of f ≡ refused n p → (r : Result ℕ Failure) → recording_of r ≡ refused n p
       → RecordedWith word (memory b a buffer) (memory b' a' buffer) lefts rights stack lefts' rights' stack' r
   engine_refuses n p e r g =
       let o : judged_in word b a lefts rights stack ≡ refused n p = drop_refused _ (sym e ∙ t.result) in
@@ -68,19 +71,14 @@ module _ {word b a lefts rights stack b' a' lefts' rights' stack' : List ℕ} {f
       }
 
   -- So it is where the tables were not filled.
-  pub engine_unfills : {r : Recording} → ((n : ℕ) → f ≡ Filled n → ⊥) → r ≡ unfilled_by f
+  pub engine_unfills : {r : Result ℕ Failure} (x : Failure) → f ≡ Err x → r ≡ Err x
       → RecordedWith word (memory b a buffer) (memory b' a' buffer) lefts rights stack lefts' rights' stack' r
-  engine_unfills {r} h e = go f refl
-    where
-      go : (g : Filling) → f ≡ g
-          → RecordedWith word (memory b a buffer) (memory b' a' buffer) lefts rights stack lefts' rights' stack' r
-      go (Filled n) k = absurd (h n k)
-      go (NotFilled x) k =
-          engine_refuses (number_of x) (place_of x) (ap filling_of k) r (ap recording_of (e ∙ ap unfilled_by k))
-      go NoScratch k = engine_refuses 0 0 (ap filling_of k) r (ap recording_of (e ∙ ap unfilled_by k))
+  engine_unfills {r} (Refused x) e g =
+      engine_refuses (number_of x) (place_of x) (ap filling_of e) r (ap recording_of g)
+  engine_unfills {r} Unfit e g = engine_refuses 0 0 (ap filling_of e) r (ap recording_of g)
 
   -- The engine read n levels of the form of a word.
-  module _ (n : ℕ) (e : f ≡ Filled n) where
+  module _ (n : ℕ) (e : f ≡ Ok n) where
     found : (w : Word) × (judged_in word b a lefts rights stack ≡ accepted w)
     found = drop_accepted _ (sym (ap filling_of e) ∙ t.result)
 
@@ -153,16 +151,16 @@ module _ {word b a lefts rights stack b' a' lefts' rights' stack' : List ℕ} {f
         (ap accepted front_record)
 
     -- What the call comes to.
-    pub engine_writes : {buffer' : List ℕ} {r : Encoding} {k : ℕ} → k ≡ bytes_written_value r
-        → Encoded (take n b') (take n a') buffer buffer' r
-        → RecordedWith word (memory b a buffer) (memory b' a' buffer') lefts rights stack lefts' rights' stack'
-        (Bytes k)
-    engine_writes {buffer'} {r} {k} g w =
+    pub engine_writes : {buffer' : List ℕ} {r : Result ℕ Failure} → Encoded (take n b') (take n a') buffer buffer' r
+        → RecordedWith word (memory b a buffer) (memory b' a' buffer') lefts rights stack lefts' rights' stack' r
+    engine_writes {buffer'} {r} w =
         let so = engine_judges ∙ found.1 in
-        let count = g ∙ bytes_written_lem r (length (encode_word the_word))
-        (w.result ∙ ap (λ (o : Outcome (List ℕ)). valued length o) writer_accepts) in
         record {
-          result = ap accepted count ∙ sym (ap (λ (o : Outcome Word). count_record o) so);
+          result =
+              as_encoding r
+              ∙ w.result
+              ∙ ap (λ (o : Outcome (List ℕ)). valued length o) writer_accepts
+              ∙ sym (ap (λ (o : Outcome Word). count_record o) so);
           leaves = record {
             b_table = t.b_table ∙ sym (ap (λ (q : Outcome Word). table_after b_side q b) engine_judges);
             a_table = t.a_table ∙ sym (ap (λ (q : Outcome Word). table_after a_side q a) engine_judges);

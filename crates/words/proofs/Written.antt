@@ -5,13 +5,12 @@ use Prim.Native.Nat.{ℕ, ◌+◌, ◌≤◌}
 use native.Mathlib.Omega.{arith}
 use lib.ListN.{length, take, length-take}
 use lib.Seq.{sets-eq, take_at}
+use Rattle.std.specs.Prelude.{⊤, Result, Ok, Err}
 use Rattle.group.specs.Letters.{Word}
 use Rattle.group.specs.Forms.{b_side, a_side}
 use Rattle.group.specs.Products.{form_of}
 use Rattle.group.proofs.Bytes.{read_length}
 use Rattle.group.proofs.Sizes.{form_sum}
-use Rattle.refusals.specs.declared.Verdict.{Verdict}
-use Rattle.refusals.specs.declared.Verdict.TheVariants.{Accepted, Refused}
 use Rattle.refusals.specs.declared.Refusal.{Refusal}
 use Rattle.refusals.specs.Refusals.{number_of, place_of}
 use Rattle.refusals.specs.Outcomes.{Outcome, refused, drop_value, verdict_of}
@@ -32,12 +31,12 @@ left_kept o n p m e = record {
 }
 
 -- A verdict's refusal is the word's outcome.
-pub verdict_refused : (o : Outcome Word) (v : Verdict) (r : Refusal) → verdict_of v ≡ drop_value o → v ≡ Refused r
+pub verdict_refused : (o : Outcome Word) (v : Result ⊤ Refusal) (r : Refusal) → verdict_of v ≡ drop_value o → v ≡ Err r
     → o ≡ refused (number_of r) (place_of r)
 verdict_refused o v r h e = drop_refused o (sym (ap verdict_of e) ∙ h)
 
-pub verdict_accepts : (word : List ℕ) (m : Memory) (v : Verdict) → verdict_of v ≡ drop_value (judged_with word m)
-    → v ≡ Accepted → Accepts word m
+pub verdict_accepts : (word : List ℕ) (m : Memory) (v : Result ⊤ Refusal)
+    → verdict_of v ≡ drop_value (judged_with word m) → v ≡ Ok tt → Accepts word m
 verdict_accepts word m v h e =
     let f = drop_accepted (judged_with word m) (sym (ap verdict_of e) ∙ h) in
     record { letters = f.0; judged_so = f.1 }

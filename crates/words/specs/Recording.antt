@@ -3,14 +3,14 @@
 --     judged_record   the word, or what is refused of it, the tables and the buffer
 --     table_after, buffer_after   what is lent, at exit         Recorded   the contract of `word_to_record`
 -- Assumes nothing.
-use Rattle.std.specs.Prelude.{◌≡◌, cond, List, ℕ, length, ltb}
+use Rattle.std.specs.Prelude.{◌≡◌, cond, List, ℕ, length, ltb, Result}
 use Rattle.std.proofs.lemmas.List.Edits.{sets}
+use Rattle.refusals.specs.declared.Refusal.{Refusal}
 use Rattle.group.specs.Letters.{Word}
 use Rattle.group.specs.Forms.{b_side, a_side}
 use Rattle.group.specs.Products.{form_of}
 use Rattle.refusals.specs.Outcomes.{Outcome, accepted, refused, after, then, valued, reply_of}
 use Rattle.refusals.specs.Memory.{Memory}
-use Rattle.refusals.specs.declared.Reply.{Reply}
 use Rattle.records.specs.Format.{encode, buffer_size}
 use Rattle.letters.specs.Judging.{judged}
 use Rattle.forest.specs.Filling.{table_after}
@@ -49,6 +49,6 @@ beside own (accepted v) = own
 beside own (refused number place) = refused number place
 
 -- For every word and whatever is lent with it.
-pub record Recorded (word : List ℕ) (entry exit : Memory) (r : Reply) : Type 0 where
+pub record Recorded (word : List ℕ) (entry exit : Memory) (r : Result ℕ Refusal) : Type 0 where
   pub result : reply_of r ≡ count_record (judged_with word entry)
   pub leaves : Left (judged_with word entry) entry exit

@@ -1,16 +1,10 @@
 -- `opened` meets its contract. Assumes nothing.
-use mathlib.Core.Path.{refl, ap₂}
-use Prim.Native.Nat.{ℕ, ◌+◌, ◌%◌, ◌^◌}
+use mathlib.Core.Path.{refl}
+use Prim.Native.Nat.{◌%◌, ◌^◌}
 use native.Mathlib.Nat.{mod-lt}
-use native.Mathlib.Omega.{arith}
 use lib.Dec.{lit<}
-use Rattle.bitrows.proofs.Inserting.{opened_fits, below-fits, moved_fits, moved_at}
+use Rattle.bitrows.proofs.Inserting.{opened_fits, moved_fits, moved_at}
 use Rattle.bitrows.proofs.opened.Goals as goal
-
-pub overflow_sub-result : goal.overflow_sub-result
-overflow_sub-result c =
-    let args = c.args in
-    omega (arith, c.below-low.ensures, below-fits args.x (args.node.0 % 64))
 
 pub overflow_add-result : goal.overflow_add-result
 overflow_add-result c =
@@ -32,10 +26,3 @@ overflow_add-result-2 c =
           c.bit_of.ensures)
           (opened_fits args.x (args.node.0 % 64) c.ranges.x.fits (mod-lt args.node.0 (lit< tt))));
     }
-
-pub returns : goal.returns
-returns c =
-    let args = c.args in
-    ap₂ (λ (m k : ℕ). m + k) c.below-low.ensures
-    (moved_at args.x c.below-low.result c.bit_of.result args.node.0 c.below-low.ensures
-    c.bit_of.ensures)

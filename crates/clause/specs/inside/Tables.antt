@@ -1,10 +1,10 @@
 -- Two tables of exponents: the clause tested on them, and a form put into two that are lent. Assumes nothing.
-use Rattle.std.specs.Prelude.{◌≡◌, Bool, cond, List, ℕ, suc, ◌-◌, ◌≤◌, length, get_or, eqb, ltb}
+use Rattle.std.specs.Prelude.{◌≡◌, Bool, cond, List, ℕ, suc, ◌-◌, ◌≤◌, length, get_or, eqb, ltb, ⊤, Result}
+use Rattle.refusals.specs.declared.Refusal.{Refusal}
 use Rattle.lists.specs.Tables.{filled}
 use Rattle.group.specs.Forms.{Side, b_side, a_side, Form, exponent}
 use Rattle.group.specs.Limits.{limit}
 use Rattle.refusals.specs.Outcomes.{Outcome, accepted, refused, after, then, drop_value, verdict_of}
-use Rattle.refusals.specs.declared.Verdict.{Verdict}
 use Rattle.clause.specs.Clause.{both, find_break}
 
 -- The test of the reduced form's clause, on the exponents of an index and the next.
@@ -16,7 +16,7 @@ abbrev pub Shown : Form → List ℕ → List ℕ → Type 0
 Shown f b a = (i : ℕ) → i ≤ suc limit → (get_or b i 0 ≡ exponent b_side f i) × (get_or a i 0 ≡ exponent a_side f i)
 
 -- The clause was tested for each form that the tables show.
-abbrev pub BreakFound : List ℕ → List ℕ → Verdict → Type 0
+abbrev pub BreakFound : List ℕ → List ℕ → Result ⊤ Refusal → Type 0
 BreakFound b a r = (f : Form) → Shown f b a → verdict_of r ≡ drop_value (find_break f 0 (suc limit))
 
 -- No index below i breaks the clause, of any form that the tables show.
@@ -33,11 +33,11 @@ abbrev pub table_read : Side → Outcome Form → List ℕ → List ℕ
 table_read s o t = after o t (λ f. filled (suc limit) (exponent s f) t)
 
 -- What was read, with its exponents in the two tables.
-pub record ReadInto (o : Outcome Form) (b a b' a' : List ℕ) (r : Verdict) : Type 0 where
+pub record ReadInto (o : Outcome Form) (b a b' a' : List ℕ) (r : Result ⊤ Refusal) : Type 0 where
   pub result : verdict_of r ≡ drop_value (then o (fits (length b) (length a)))
   pub b_table : b' ≡ table_read b_side (then o (fits (length b) (length a))) b
   pub a_table : a' ≡ table_read a_side (then o (fits (length b) (length a))) a
 
 -- The same of each form that two other tables show, where the clause is tested on them.
-abbrev pub HandedOver : (ob oa b a b' a' : List ℕ) → Verdict → Type 0
+abbrev pub HandedOver : (ob oa b a b' a' : List ℕ) → Result ⊤ Refusal → Type 0
 HandedOver ob oa b a b' a' r = (f : Form) → Shown f ob oa → ReadInto (find_break f 0 (suc limit)) b a b' a' r

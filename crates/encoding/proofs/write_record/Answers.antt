@@ -3,13 +3,15 @@ use native.Mathlib.Omega.{arith}
 use Rattle.records.specs.Format.{powers}
 use Rattle.records.proofs.Lengths.{entries-length, record_length}
 use Rattle.encoding.proofs.WriteAnswers.{unfit_b, unfit_a, short_buffer, all_written}
+use Rattle.encoding.proofs.write_record.Goals.{then-b-via-then-b, then-b-via-else-b+then-a}
 use Rattle.encoding.proofs.write_record.Goals as goal
 
 pub returns-then-b : goal.returns-then-b
-returns-then-b c = unfit_b (omega arith)
-
-pub returns-then-a : goal.returns-then-a
-returns-then-a c = unfit_a (omega arith) (omega arith)
+returns-then-b c =
+    elim c.then-b.branch [
+      | then-b-via-then-b w ↦ unfit_b (omega (arith, w.if-b.true))
+      | then-b-via-else-b+then-a w ↦ unfit_a (omega (arith, w.if-b.false)) (omega (arith, w.if-a.true))
+    ]
 
 pub returns-then-buffer-b_powers : goal.returns-then-buffer-b_powers
 returns-then-buffer-b_powers c =

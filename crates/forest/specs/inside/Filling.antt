@@ -1,13 +1,13 @@
 -- The engine as a call inside the library: its scratch, its answers and its contract.
 -- Inside: no claim reaches these definitions; a reader of the claims need not believe them. Assumes nothing.
-use Rattle.std.specs.Prelude.{◌≡◌, Bool, true, false, cond, List, ℕ, ◌+◌, ◌≤◌, length, ltb}
+use Rattle.std.specs.Prelude.{◌≡◌, Bool, true, false, cond, List, ℕ, ◌+◌, ◌≤◌, length, ltb, Result, Ok, Err}
+use Rattle.refusals.specs.declared.Failure.{Failure}
+use Rattle.refusals.specs.declared.Failure.TheVariants.{Refused, Unfit}
 use Rattle.group.specs.Letters.{Word}
 use Rattle.group.specs.Forms.{b_side, a_side, levels}
 use Rattle.group.specs.Products.{form_of}
 use Rattle.group.specs.Limits.{limit}
 use Rattle.refusals.specs.Outcomes.{Outcome, accepted, refused, drop_value, refusal}
-use Rattle.forest.specs.declared.Filling.{Filling}
-use Rattle.forest.specs.declared.Filling.TheVariants.{Filled, Refused, Unfit}
 use Rattle.letters.specs.Judging.{judged}
 use Rattle.forest.specs.Filling.{table_after}
 
@@ -46,18 +46,19 @@ judged_in word b a lefts rights stack =
     cond (fits word lefts rights stack) (judged word (length b) (length a)) (refused 0 0)
 
 -- The outcome of each answer.
-abbrev pub filling_of : Filling → Outcome ℕ
-filling_of (Filled n) = accepted 0
-filling_of (Refused r) = refusal r
-filling_of Unfit = refused 0 0
+abbrev pub filling_of : Result ℕ Failure → Outcome ℕ
+filling_of (Ok n) = accepted 0
+filling_of (Err (Refused r)) = refusal r
+filling_of (Err Unfit) = refused 0 0
 
 -- For every word and whatever is lent with it. What the scratch holds at exit is open where the word is accepted.
-pub record FilledTables (word b a lefts rights stack b' a' lefts' rights' stack' : List ℕ) (r : Filling) : Type 0 where
+pub record FilledTables (word b a lefts rights stack b' a' lefts' rights' stack' : List ℕ)
+    (r : Result ℕ Failure) : Type 0 where
   pub result : filling_of r ≡ drop_value (judged_in word b a lefts rights stack)
   pub b_table : b' ≡ table_after b_side (judged_in word b a lefts rights stack) b
   pub a_table : a' ≡ table_after a_side (judged_in word b a lefts rights stack) a
   pub scratch_kept : (number place : ℕ) → judged_in word b a lefts rights stack ≡ refused number place
       → (lefts' ≡ lefts) × (rights' ≡ rights) × (stack' ≡ stack)
   -- The entries below n are all that a record of the form needs; how far n is above the number of levels is open.
-  pub levels_read : (n : ℕ) → r ≡ Filled n → (w : Word) → judged_in word b a lefts rights stack ≡ accepted w
+  pub levels_read : (n : ℕ) → r ≡ Ok n → (w : Word) → judged_in word b a lefts rights stack ≡ accepted w
       → (levels (form_of w) ≤ n) × (n ≤ length w + 1)

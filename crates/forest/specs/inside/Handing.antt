@@ -1,10 +1,10 @@
 -- What the functions of `handing` promise: the row of powers on the stack is read off into own tables, and these are
 -- handed over to the lent ones. Assumes nothing.
-use Rattle.std.specs.Prelude.{◌≡◌, List, ℕ, suc, ◌≤◌, ◌<◌, length, get_or}
+use Rattle.std.specs.Prelude.{◌≡◌, List, ℕ, suc, ◌≤◌, ◌<◌, length, get_or, Result}
+use Rattle.refusals.specs.declared.Failure.{Failure}
 use Rattle.group.specs.Forms.{b_side, a_side, exponent, levels}
 use Rattle.group.specs.Limits.{limit}
 use Rattle.group.specs.Powers.{SignedPower}
-use Rattle.forest.specs.declared.Filling.{Filling}
 use Rattle.forest.specs.Filling.{product_form, tables_for}
 use Rattle.forest.specs.inside.Filling.{cells}
 use Rattle.forest.specs.inside.FillingPowers.{FilledAs}
@@ -21,7 +21,7 @@ pub record Shown (ps : List SignedPower) (read height : ℕ) (b a : List ℕ) : 
   pub within : read ≤ suc limit
 
 -- Powers that the own tables show are handed over.
-abbrev pub HandedOver : (read height : ℕ) (ob oa b a b' a' : List ℕ) → Filling → Type 0
+abbrev pub HandedOver : (read height : ℕ) (ob oa b a b' a' : List ℕ) → Result ℕ Failure → Type 0
 HandedOver read height ob oa b a b' a' r =
     (ps : List SignedPower) → Shown ps read height ob oa → FilledAs (tables_for (length b) (length a) ps) b a b' a' r
 
@@ -34,7 +34,7 @@ pub record PileReady (lefts rights stack : List ℕ) (height : ℕ) : Type 0 whe
   pub few : forest_tips bushes ≤ length stack
 
 -- Powers whose row stands on the stack are read off and handed over.
-abbrev pub PileRead : (lefts rights stack : List ℕ) (height : ℕ) (b a b' a' : List ℕ) → Filling → Type 0
+abbrev pub PileRead : (lefts rights stack : List ℕ) (height : ℕ) (b a b' a' : List ℕ) → Result ℕ Failure → Type 0
 PileRead lefts rights stack height b a b' a' r =
     (ps : List SignedPower)
     → IndicesWithin limit ps

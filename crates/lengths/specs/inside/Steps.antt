@@ -6,6 +6,7 @@
 -- Assumes nothing.
 use Rattle.std.specs.Prelude.{◌≡◌, cond, false, List, [], ◌∷◌, ℕ, zero, suc, ◌+◌, ◌≤◌, ◌<◌, length, take, drop, ltb}
 use Rattle.std.proofs.lemmas.List.Edits.{sets}
+use Rattle.std.specs.Prelude.{Option, Some}
 use Rattle.lists.specs.inside.Writes.{Writing}
 use Rattle.refusals.specs.Outcomes.{Outcome, accepted, refused, then}
 use Rattle.trees.specs.Building.{tree_of}
@@ -13,8 +14,6 @@ use Rattle.trees.specs.Pairs.{max_carets}
 use Rattle.trees.specs.Shapes.{shape_size}
 use Rattle.trees.specs.inside.ShapeReading.{Exact}
 use Rattle.trees.specs.inside.Writing.{table_carets}
-use Rattle.lengths.specs.declared.Length.{Length}
-use Rattle.lengths.specs.declared.Length.TheVariants.{Letters}
 use Rattle.lengths.specs.declared.kinds.CaretKind.{CaretKind}
 use Rattle.lengths.specs.declared.kinds.CaretKind.TheVariants as Named
 use Rattle.lengths.specs.declared.kinds.CaretLabel.{CaretLabel}
@@ -50,7 +49,7 @@ abbrev pub classes_of : List ℕ → List Class
 classes_of [] = []
 classes_of (b ∷ bs) = class_of b ∷ classes_of bs
 
--- The kind that a case of the enum names, and its row and column.
+-- The kind that a case of the enum names.
 abbrev pub kind_named : CaretKind → Kind
 kind_named Named.R0 = R0
 kind_named Named.RN = RN
@@ -58,14 +57,6 @@ kind_named Named.RI = RI
 kind_named Named.LL = LL
 kind_named Named.I0 = I0
 kind_named Named.IR = IR
-
-abbrev pub index_of : CaretKind → ℕ
-index_of Named.R0 = 0
-index_of Named.RN = 1
-index_of Named.RI = 2
-index_of Named.LL = 3
-index_of Named.I0 = 4
-index_of Named.IR = 5
 
 -- The label that a case of the enum names.
 abbrev pub label_named : CaretLabel → Label
@@ -174,5 +165,5 @@ length_within size b a =
     cond (ltb size (shape_size n)) (refused 0 0) (accepted (pair_length (tree_of n a) (tree_of n b))))
 
 -- An answer of which only the length counts: it is that of the tables.
-pub record Found (b a : List ℕ) (r : Length) : Type 0 where
-  pub fits : (k : ℕ) → r ≡ Letters k → length_of r ≡ table_length b a
+pub record Found (b a : List ℕ) (r : Option ℕ) : Type 0 where
+  pub fits : (k : ℕ) → r ≡ Some k → length_of r ≡ table_length b a

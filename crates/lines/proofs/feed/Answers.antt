@@ -1,22 +1,20 @@
 -- `feed` meets its contract: the bytes up to the end of the line are kept, and the line feed is passed over. Assumes
 -- nothing.
-use Rattle.lines.proofs.Taking.{feed_within, feed_end, feed_out}
+use Rattle.std.proofs.Common.{refl, ap, ◌∙◌}
+use Rattle.lines.proofs.Taking.{feed_bytes, feed_end, feed_out}
 use Rattle.lines.proofs.feed.Goals as goal
-
-pub keep_all-kept-requires : goal.keep_all-kept-requires
-keep_all-kept-requires c =
-    let args = c.args in
-    let within = feed_within args.part.now args.from c.line_end-end.result c.line_end-end.ensures in
-    record { from_le_end = within.0; from_in_bounds = within.1 }
 
 pub returns-then-end-part : goal.returns-then-end-part
 returns-then-end-part c =
-    let args = c.args in
-    feed_end args.part.now args.from c.line_end-end.ensures c.keep_all-kept.ensures
-    c.if-end-part.true
+    let part = c.args.part.now in
+    let e = c.line_end-end.ensures in
+    let bytes = feed_bytes part c.args.from _ _ _ e refl c.get.ensures.lookup.0 in
+    feed_end part c.args.from e (ap (λ x. x.now) c.unwrap_or.ensures ∙ bytes) c.keep_all-held.ensures c.if-end-part.true
 
-pub returns : goal.returns
-returns c =
-    let args = c.args in
-    feed_out args.part.now args.from c.line_end-end.ensures c.keep_all-kept.ensures
+pub returns-else-end-part : goal.returns-else-end-part
+returns-else-end-part c =
+    let part = c.args.part.now in
+    let e = c.line_end-end.ensures in
+    let bytes = feed_bytes part c.args.from _ _ _ e refl c.get.ensures.lookup.0 in
+    feed_out part c.args.from e (ap (λ x. x.now) c.unwrap_or.ensures ∙ bytes) c.keep_all-held.ensures
     c.if-end-part.false

@@ -1,11 +1,16 @@
 -- `pack_shape` meets its contract. Assumes nothing.
 use mathlib.Core.Path.{refl, sym, ap, ◌∙◌}
-use mathlib.Core.Logic.{inl, inr}
+use mathlib.Core.Logic.{◌⊎◌, inl, inr}
+use Prim.Native.Nat.{◌<◌}
+use lib.ListN.{length}
+use Rattle.bitrows.specs.Numbers.{numbers_of_value}
 use native.Mathlib.Omega.{arith}
 use Rattle.refusals.specs.Outcomes.{accepted}
 use Rattle.packed.proofs.Reading.{room_fits, room_short}
 use Rattle.packed.proofs.PackSteps.{tree_few, packing_not, packing_room}
 use Rattle.packed.proofs.Checked.{repacked_refused, repacked_filled}
+use Rattle.packed.proofs.pack_shape.Goals.{then-numbers-n-via-then-numbers-n}
+use Rattle.packed.proofs.pack_shape.Goals.{then-numbers-n-via-else-numbers-n+then-summary-n}
 use Rattle.packed.proofs.pack_shape.Goals as goal
 
 pub returns-then-not-is_tree : goal.returns-then-not-is_tree
@@ -24,21 +29,17 @@ numbers_of-n-requires c =
 pub returns-then-numbers-n : goal.returns-then-numbers-n
 returns-then-numbers-n c =
     let args = c.args in
+    let short : (length args.numbers.now < numbers_of_value (length args.shape.now))
+    ⊎ (length args.summary.now < numbers_of_value (length args.shape.now)) =
+    elim c.then-numbers-n.branch [
+      | then-numbers-n-via-then-numbers-n w ↦ inl (omega (arith, c.numbers_of-n.ensures, w.if-numbers-n.true))
+      | then-numbers-n-via-else-numbers-n+then-summary-n w ↦
+          inr (omega (arith, c.numbers_of-n.ensures, w.if-summary-n.true))
+    ] in
     repacked_refused _
     (packing_room args.shape.now args.numbers.now args.summary.now
     (sym c.is_tree.ensures ∙ c.if-not-is_tree.false)
-    ∙ room_short args.shape.now args.numbers.now args.summary.now
-    (inl (omega (arith, c.numbers_of-n.ensures))))
-    refl
-
-pub returns-then-summary-n : goal.returns-then-summary-n
-returns-then-summary-n c =
-    let args = c.args in
-    repacked_refused _
-    (packing_room args.shape.now args.numbers.now args.summary.now
-    (sym c.is_tree.ensures ∙ c.if-not-is_tree.false)
-    ∙ room_short args.shape.now args.numbers.now args.summary.now
-    (inr (omega (arith, c.numbers_of-n.ensures))))
+    ∙ room_short args.shape.now args.numbers.now args.summary.now short)
     refl
 
 pub put_numbers-requires : goal.put_numbers-requires

@@ -1,9 +1,17 @@
 -- `record_to_tree_pair` meets its contract. Assumes nothing.
 use Rattle.records.proofs.ClearedTables.{own_cleared}
-use Rattle.pairs.proofs.Answers.{pair_answer}
+use Rattle.pairs.proofs.Answers.{pair_answer, pair_never, number, refusing}
 use Rattle.pairs.proofs.record_to_tree_pair.Goals as goal
 
-pub returns : goal.returns
-returns c =
-    pair_answer own_cleared c.record_to_tables-verdict.ensures c.in-Accepted.is _ _
-    c.write_pair.ensures c.paired.ensures
+pub unreachable-requires : goal.unreachable-requires
+unreachable-requires c =
+    pair_never own_cleared c.record_to_tables.ensures c.in_ok-record_to_tables.was (rw c.in-Err-Unfit.field-0-is at c.in-Err-Unfit.ensures)
+
+pub returns-in-Ok : goal.returns-in-Ok
+returns-in-Ok c =
+    pair_answer own_cleared c.record_to_tables.ensures c.in_ok-record_to_tables.was c.in-Ok.ensures (number _)
+
+pub returns-in-Err-Refused : goal.returns-in-Err-Refused
+returns-in-Err-Refused c =
+    pair_answer own_cleared c.record_to_tables.ensures c.in_ok-record_to_tables.was (rw c.in-Err-Refused.field-0-is at c.in-Err-Refused.ensures)
+    (refusing _)

@@ -1,19 +1,9 @@
--- The answers of the calls below, passed on.
+-- What a measure of tables answers.
 -- Inside: no claim reaches these definitions; a reader of the claims need not believe them. Assumes nothing.
-use Rattle.refusals.specs.declared.Refusal.TheVariants.{BadFrame}
-use Rattle.trees.specs.declared.Pairing.{Pairing}
-use Rattle.trees.specs.declared.Pairing.TheVariants as Paired-by
-use Rattle.lengths.specs.declared.Length.{Length}
-use Rattle.lengths.specs.declared.Length.TheVariants as Summed
-use Rattle.refusals.specs.declared.Reply.{Reply}
-use Rattle.refusals.specs.declared.Reply.TheVariants as Replies
+use Rattle.std.specs.Prelude.{◌≡◌, List, ℕ, Option}
+use denote.Ref.{Bor}
+use Rattle.lengths.specs.inside.Contracts.{length_of, table_length}
 
--- The answers passed on; what is not met stands for itself.
-abbrev pub pairing_in : Pairing → Reply
-pairing_in (Paired-by.Carets n) = Replies.Number n
-pairing_in (Paired-by.Refused r) = Replies.Refused r
-pairing_in Paired-by.Unfit = Replies.Refused BadFrame
-
-abbrev pub length_in : Length → Reply
-length_in (Summed.Letters n) = Replies.Number n
-length_in Summed.Unfit = Replies.Refused BadFrame
+-- The answer on two tables is their length.
+abbrev pub GivesLength : (Bor (List ℕ) → Bor (List ℕ) → Option ℕ → Type 0) → Type 0
+GivesLength gives = (b a : Bor (List ℕ)) (r : Option ℕ) → gives b a r → length_of r ≡ table_length b.now a.now

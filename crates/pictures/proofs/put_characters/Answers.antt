@@ -11,10 +11,8 @@ use Rattle.pictures.specs.Characters.{foot_characters, characters_of}
 use Rattle.pictures.proofs.put_characters.Goals as goal
 
 pub returns-then-minus-gt-MAX_SHAPE : goal.returns-then-minus-gt-MAX_SHAPE
-returns-then-minus-gt-MAX_SHAPE c = λ t s e f count few. absurd (omega (arith, shape-length t, ap length e))
-
-pub returns-then-plus-gt-MAX_SHAPE : goal.returns-then-plus-gt-MAX_SHAPE
-returns-then-plus-gt-MAX_SHAPE c = λ t s e f count few. absurd (omega (arith, shape-length s, ap length f))
+returns-then-minus-gt-MAX_SHAPE c =
+    λ t s e f count few. absurd (omega (arith, shape-length t, shape-length s, ap length e, ap length f))
 
 pub returns : goal.returns
 unfolding characters_of

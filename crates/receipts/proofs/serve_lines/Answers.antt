@@ -7,8 +7,8 @@ use Rattle.receipts.proofs.serve_lines.Goals as goal
 pub loop-at-init : goal.loop-at-init
 loop-at-init c = (serve_start _ _ _ _ _ c.ranges.number.fits c.requires, c.told-line)
 
-pub put_held-written-requires : goal.put_held-written-requires
-put_held-written-requires c = serve_room c.loop-at.invariant.0 c.feed-fed.ensures c.if-fed.true c.loop-at.invariant.1
+pub put_held-requires : goal.put_held-requires
+put_held-requires c = serve_room c.loop-at.invariant.0 c.feed-fed.ensures c.if-fed.true c.loop-at.invariant.1
 
 pub loop-at-smaller-then-fed : goal.loop-at-smaller-then-fed
 loop-at-smaller-then-fed c =
@@ -17,7 +17,7 @@ loop-at-smaller-then-fed c =
 pub loop-at-preserved-then-fed : goal.loop-at-preserved-then-fed
 loop-at-preserved-then-fed c =
     let at = c.loop-at in (
-      serve_next at.invariant.0 c.feed-fed.ensures c.if-fed.true c.put_held-written.ensures refl,
+      serve_next at.invariant.0 c.feed-fed.ensures c.if-fed.true c.put_held.ensures refl,
       c.feed-fed.auto.line ∙ at.invariant.1,
     )
 

@@ -6,7 +6,8 @@ use Rattle.receipts.proofs.serve_lines.Given as goal
 
 abbrev pub invariant-loop-at : goal.invariant-loop-at
 invariant-loop-at l =
-    Serves l.part l.initial.out (served l.part l.number l.initial.line l.held) l.line l.out l.at l.k l.h l.written
+    Serves l.part l.initial.out (served l.part l.number l.initial.line l.held) l.line l.out l.at
+    l.taken.number l.taken.held l.taken.written
     × (length l.line ≡ line_size)
 
 abbrev pub decreases-loop-at : goal.decreases-loop-at

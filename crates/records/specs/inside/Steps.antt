@@ -1,24 +1,18 @@
 -- What the steps of the reading promise one another inside this crate. Assumes nothing.
-use Rattle.std.specs.Prelude.{◌≡◌, cond, List, [], ◌∷◌, ℕ, suc, ◌≤◌, ◌<◌, set}
+use Rattle.std.specs.Prelude.{◌≡◌, true, List, [], ◌∷◌, ℕ, suc, ◌≤◌, ◌<◌, set}
 use Rattle.lists.specs.Tables.{filled}
+use Rattle.std.proofs.Props.{props}
 use Rattle.group.specs.Limits.{limit}
-use Rattle.refusals.specs.Outcomes.{Outcome, accepted, refused, then}
-use Rattle.records.specs.declared.frame.Frame.{Frame}
-use Rattle.records.specs.declared.frame.Frame.TheVariants.{Exact, Broken}
-use Rattle.records.specs.declared.reading.Scan.{Scan}
-use Rattle.records.specs.declared.reading.Scan.TheVariants.{Sum, Fault}
+use Rattle.refusals.specs.Outcomes.{Outcome, then}
 use Rattle.records.specs.Format.{Power, power}
 use Rattle.records.specs.Reading.{b_length, a_length, a_start, frames, scan}
 use Rattle.records.specs.Reading.{b_powers, a_powers, exponent_at}
 
--- The lengths of the bodies where the fields frame the bytes.
-abbrev pub frame_of : List ℕ → Frame
-frame_of s = cond (frames s) (Exact (b_length s) (a_length s)) Broken
-
--- The outcome of a scan.
-abbrev pub scan_of : Scan → Outcome ℕ
-scan_of (Sum n) = accepted n
-scan_of (Fault at) = refused 4 at
+-- Two fields frame the bytes, with bodies of these lengths.
+pub record FramedBy (s : List ℕ) (b a : ℕ) : Type 0 where
+  pub framed : frames s ≡ true
+  pub first : b ≡ b_length s
+  pub second : a ≡ a_length s
 
 -- Both fields, with one sum.
 abbrev pub scan_both : List ℕ → Outcome ℕ
@@ -29,11 +23,10 @@ abbrev pub Proper : ℕ → List Power → Type 0
 Proper low [] = Unit {0}
 Proper low (power i e ∷ ps) = (low ≤ i) × (i ≤ limit) × (0 < e) × Proper (suc i) ps
 
--- The fields frame the bytes, with bodies of these lengths, and both have proper entries.
-pub record Ordered (s : List ℕ) (b a : ℕ) : Type 0 where
-  pub framed : frame_of s ≡ Exact b a
-  pub b_proper : Proper 0 (b_powers s)
-  pub a_proper : Proper 0 (a_powers s)
+-- That powers are proper is so in at most one way.
+pub proper_prop : (low : ℕ) (ps : List Power) → IsProp (Proper low ps)
+proper_prop low [] = Prim.hlevel props
+proper_prop low (power i e ∷ ps) = let rest = proper_prop (suc i) ps in Prim.hlevel (props, rest)
 
 -- Powers put into a table, each at its index.
 abbrev pub place_powers_value : List Power → List ℕ → List ℕ

@@ -1,38 +1,29 @@
 -- The steps of the pass over a register's entries: fingerprints of records, the tests of one entry.
 --     fingerprint s      a number of a record's bytes          is_new_value           no entry before has the record
---     entry_fits          the tests of the entry at a place     ended_by         the answer where no entry stands
+--     entry_fits          the tests of the entry at a place     Prepared        what the pass starts from
 -- Inside: no claim reaches these definitions; a reader of the claims need not believe them. Assumes nothing.
-use Rattle.std.specs.Prelude.{◌≡◌, Bool, true, false, cond, List, [], ◌∷◌, ℕ, ◌+◌, ◌*◌, ◌/◌, ◌%◌, ◌≤◌, length, get_or, drop, set, ltb}
-use Rattle.std.proofs.Math.Option.{Option, none, some}
-use Rattle.refusals.specs.declared.Refusal.TheVariants.{BadRegister}
+use Rattle.std.specs.Prelude.{◌≡◌, Bool, true, false, cond, List, ℕ, ◌+◌, ◌*◌, ◌/◌, ◌%◌, ◌≤◌, length, get_or, drop, set, fold, ltb}
+use Rattle.std.proofs.Math.Option.{Option as Maybe, none, some}
+use Rattle.std.specs.Prelude.{Option, Some, None}
 use Rattle.refusals.specs.Outcomes.{Outcome, accepted, refused}
 use Rattle.clause.specs.Clause.{both}
 use Rattle.fields.specs.Fields.{two_at, four_at_value, head_size}
-use Rattle.registers.specs.declared.EntryAt.{EntryAt}
-use Rattle.registers.specs.declared.EntryAt.TheVariants as Entries
-use Rattle.registers.specs.declared.heads.First.{First}
-use Rattle.registers.specs.declared.heads.First.TheVariants.{Last, Missing}
 use Rattle.registers.specs.declared.Heading.{Heading}
-use Rattle.registers.specs.declared.Search.{Search}
-use Rattle.registers.specs.declared.Search.TheVariants.{Number, Nothing}
-use Rattle.registers.specs.declared.SummaryOf.{SummaryOf}
-use Rattle.registers.specs.declared.SummaryOf.TheVariants as Summaries
 use Rattle.registers.specs.Format.{live_most, entry_base}
 use Rattle.registers.specs.Reading.{first_stands, number_in, holder_in, record_in, stored_in}
 use Rattle.registers.specs.Finding.{found}
 use Rattle.registers.specs.Answers.{heading_of}
 
 -- The first field's number, where it stands.
-abbrev pub first_of : List ℕ → First
-first_of s = cond (first_stands s) (Last (four_at_value s head_size)) Missing
+abbrev pub first_of : List ℕ → Option ℕ
+first_of s = cond (first_stands s) (Some (four_at_value s head_size)) None
 
 -- A fingerprint: any function of the bytes would do.
-abbrev pub print_from : ℕ → List ℕ → ℕ
-print_from x [] = x
-print_from x (b ∷ s) = print_from ((x * 16777619 + b + 1) % 4294967296) s
+abbrev pub print_step : ℕ → ℕ → ℕ
+print_step x b = (x * 16777619 % 4294967296 + (b + 1)) % 4294967296
 
 abbrev pub fingerprint : List ℕ → ℕ
-fingerprint s = print_from 0 s
+fingerprint s = fold print_step 0 s
 
 -- One table has an entry for each number of two bytes: how many entries have it for their holder, and 8 more, a mark,
 -- where it is the low or the high half of a fingerprint.
@@ -58,13 +49,8 @@ abbrev pub accepts : {A : Type 0} → Outcome A → Bool
 accepts (accepted x) = true
 accepts (refused number place) = false
 
--- What a search found.
-abbrev pub found_in : Search → Option ℕ
-found_in (Number k) = some k
-found_in Nothing = none
-
 -- What is found has a number above `low`.
-abbrev pub found_above : ℕ → Option ℕ → Bool
+abbrev pub found_above : ℕ → Maybe ℕ → Bool
 found_above low none = true
 found_above low (some k) = ltb low k
 
@@ -87,10 +73,14 @@ marked_at i table = set table i (count_at table i + mark)
 abbrev pub marked : ℕ → List ℕ → List ℕ
 marked x table = marked_at (high_place_value x) (marked_at (low_place_value x) table)
 
--- What the pass starts from: the first field stands, and the table is empty.
-pub record Prepared (s : List ℕ) (last : ℕ) (table : List ℕ) : Type 0 where
+-- What the pass starts from: the first field stands, with a number.
+pub record FirstStands (s : List ℕ) (last : ℕ) : Type 0 where
   pub stands : first_stands s ≡ true
   pub number : last ≡ four_at_value s head_size
+
+-- And a table that counts nothing.
+pub record Prepared (s : List ℕ) (last : ℕ) (table : List ℕ) : Type 0 where
+  pub first : FirstStands s last
   pub long : length table ≡ table_size
   pub empty : (h : ℕ) → get_or table h 0 ≡ 0
 
@@ -106,11 +96,3 @@ entry_fits s at low table =
     both (ltb low (number_in (drop at s)))
     (both (accepts (stored_in (record_in (drop at s))))
     (both (ltb (count_at table (holder_in (drop at s))) live_most) (is_new_value s (record_in (drop at s)) table low)))
-
--- The answer where no entry stands: 12 unless the list ends there and no number is above the last given.
-abbrev pub ended_by : EntryAt → (last at low live : ℕ) → SummaryOf
-ended_by Entries.End last at low live =
-    cond (ltb last low) (Summaries.Refused BadRegister)
-    (Summaries.Register (record { last = last; end = at; live = live }))
-ended_by (Entries.Entry h) last at low live = Summaries.Refused BadRegister
-ended_by (Entries.Refused r) last at low live = Summaries.Refused BadRegister

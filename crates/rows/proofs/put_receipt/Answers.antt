@@ -1,11 +1,8 @@
 -- `put_receipt` meets its contract: the buffer is too short, or the receipt is written. Assumes nothing.
 use mathlib.Core.Path.{refl}
 use lib.ListN.{length}
-use borrow.Author.Rules.{rules}
-use Rattle.refusals.specs.Memory.{memory}
 use Rattle.refusals.proofs.Placing.{place_short, place_long}
 use Rattle.rows.specs.Receipts.{receipt_size}
-use Rattle.rows.proofs.LineReads.{full_room}
 use Rattle.rows.proofs.Rooms.{too_short, long_enough}
 use Rattle.rows.proofs.put_receipt.Goals as goal
 
@@ -18,13 +15,7 @@ returns-then-not-is_enough c =
 pub put_line-requires : goal.put_line-requires
 put_line-requires c =
     let g = c.args in
-    record {
-      line_room =
-          full_room {m = memory g.b.now g.a.now g.«record».now} (search rules) (search rules) (search rules);
-      line_in_bounds =
-          long_enough (length g.out.now) (receipt_size (length g.line.now)) c.is_enough.ensures
-          c.if-not-is_enough.false;
-    }
+    long_enough (length g.out.now) (receipt_size (length g.line.now)) c.is_enough.ensures c.if-not-is_enough.false
 
 pub returns : goal.returns
 returns c =

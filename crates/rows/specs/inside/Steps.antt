@@ -1,5 +1,5 @@
 -- The steps of the receipt writer, for the functions inside this crate. Assumes nothing.
-use Rattle.std.specs.Prelude.{List, [], ◌∷◌, ◌++◌, ℕ, ◌+◌, ◌*◌}
+use Rattle.std.specs.Prelude.{◌≡◌, List, [], ◌∷◌, ◌++◌, ℕ, ◌+◌, ◌*◌}
 use Rattle.refusals.specs.Outcomes.{Outcome, accepted, refused}
 use Rattle.trees.specs.inside.Writing.{table_carets}
 use Rattle.lengths.specs.inside.Contracts.{table_length}
@@ -11,6 +11,13 @@ use Rattle.rows.specs.Receipts.{join_fields}
 abbrev pub value_in : Outcome ℕ → ℕ
 value_in (accepted n) = n
 value_in (refused number place) = 0
+
+-- Two tables that have carets and a length.
+pub record Measured (b a : List ℕ) : Type 0 where
+  pub carets : ℕ
+  pub least : ℕ
+  pub carets_found : table_carets b a ≡ accepted carets
+  pub length_found : table_length b a ≡ accepted least
 
 -- A number and the byte behind it.
 abbrev pub number_then : (n behind : ℕ) → List ℕ

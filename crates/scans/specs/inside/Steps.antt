@@ -4,11 +4,12 @@
 --     Amid m u v t w         m columns are to come, and the sum comes to w
 --     Reached b a n i w s    the scan of two tables, with n carets, has reached leaf i
 -- Inside: no claim reaches these definitions; a reader of the claims need not believe them. Assumes nothing.
-use Rattle.std.specs.Prelude.{◌≡◌, Bool, true, false, ◌&&◌, List, ℕ, zero, suc, ◌+◌, ◌-◌, ◌*◌, ◌≤◌, ◌<◌, min, length, drop, get_or, eqb}
+use Rattle.std.specs.Prelude.{◌≡◌, Bool, true, false, ◌&&◌, List, ℕ, zero, suc, ◌+◌, ◌-◌, ◌*◌, ◌≤◌, ◌<◌, min, length, drop, get_or, slice_index_or, eqb}
 use Rattle.trees.specs.Pairs.{max_carets, carets_of_sides}
 use Rattle.lengths.specs.Kinds.{kind_of}
 use Rattle.lengths.specs.Labels.{Label, label_of}
-use Rattle.lengths.specs.inside.Steps.{class_of}
+use Rattle.lengths.specs.declared.kinds.CaretLabel.{CaretLabel}
+use Rattle.lengths.specs.inside.Steps.{class_of, label_named}
 use Rattle.geodesics.specs.Rows.{Row, row, next_open, next_left}
 use Rattle.geodesics.specs.inside.Costs.{label_by, cost, Closed}
 use Rattle.scans.specs.declared.sides.Side.{Side}
@@ -52,15 +53,16 @@ lefts_past (suc s) l c = l
 abbrev pub passed_side : Side → ℕ → Side
 passed_side s c = record { subtrees = s.subtrees - c; lefts = lefts_past s.subtrees s.lefts c }
 
--- A table of the labels of the first n classes, of each where the next caret is not interior and where it is.
-pub record LabelsOf (n : ℕ) (t : List ℕ) : Type 0 where
-  pub size : length t ≡ 8
-  pub at : (c : ℕ) (next : Bool) → c < n
-      → get_or t (2 * c + bit_of next) 0 ≡ number_of (label_of (kind_of (class_of c) next next))
+-- The labels of a class, where the next caret is not interior and where it is.
+pub record LabelsOf (class : ℕ) (labels : List CaretLabel) : Type 0 where
+  pub size : length labels ≡ 2
+  pub at : (next : Bool) (d : CaretLabel)
+      → label_named (slice_index_or labels (bit_of next) d) ≡ label_of (kind_of (class_of class) next next)
 
--- Of all four.
-abbrev pub Labels : List ℕ → Type 0
-Labels t = LabelsOf 4 t
+-- Those of all four classes.
+pub record ClassLabels (labels : List (List CaretLabel)) : Type 0 where
+  pub size : length labels ≡ 4
+  pub at : (class : ℕ) (d : List CaretLabel) → class < 4 → LabelsOf class (slice_index_or labels class d)
 
 -- A column is R over R.
 abbrev pub both_right : (x y : ℕ) → Bool

@@ -1,36 +1,27 @@
-use native.Mathlib.Omega.{arith}
-use Rattle.tokens.proofs.TextSteps.{reading_start, reading_keeps, reading_more, reading_misspelled}
-use Rattle.tokens.proofs.TextSteps.{reading_large, reading_read, reading_empty, token_on}
+use Rattle.std.proofs.Common.{◌≡◌, Err, arith}
+use Rattle.std.proofs.lemmas.Result.{err_from_is_err_and}
+use Rattle.std.proofs.lemmas.Bool.Decides.{nat_tests}
+use Rattle.refusals.specs.declared.Refusal.TheVariants.{Misspelled}
+use Rattle.tokens.proofs.TextSteps.{reading_keeps, reading_more, reading_misspelled, reading_done, reading_empty}
 use Rattle.tokens.proofs.read_text.Goals as goal
 
-pub returns-then-text-eq0 : goal.returns-then-text-eq0
-returns-then-text-eq0 c = reading_empty _ _ _ _ c.if-text-eq0.true
+pub returns-then-is_empty : goal.returns-then-is_empty
+returns-then-is_empty c = reading_empty _ _ _ _ (grind (arith, nat_tests, c.if-is_empty.ensures))
 
-pub loop-at-init : goal.loop-at-init
-loop-at-init c = reading_start _ _ _ _
-
-pub returns-in_default : goal.returns-in_default
-returns-in_default c =
-    reading_misspelled c.loop-at.invariant c.loop-at-test.true c.if-text-eq0.false c.in_default.ensures
-
-pub keep-powers-requires : goal.keep-powers-requires
-keep-powers-requires c =
-    reading_keeps c.loop-at.invariant c.in-Spelled.ensures (omega arith) (omega arith) (omega arith)
-
-pub overflow_add-at : goal.overflow_add-at
-overflow_add-at c = omega (arith, c.in-Spelled.ensures.within)
-
-pub loop-at-smaller : goal.loop-at-smaller
-loop-at-smaller c = omega (arith, token_on c.in-Spelled.ensures c.loop-at-test.true)
+pub returns-in_err-power : goal.returns-in_err-power
+returns-in_err-power c =
+    let e = err_from_is_err_and c.from_residual.result c.from_residual.ensures.1 in
+    let refused = rw c.in_err-power.ensures.ok_part at c.in_err-power.ensures.value in
+    let same : c.from_residual.result ≡ Err (Misspelled c.loop-at.at) = cc (e.1, e.2, refused) in
+    rw same
+    (reading_misspelled c.loop-at.invariant c.loop-at-test.true (λ z. grind (arith, nat_tests, c.if-is_empty.ensures))
+    (rw c.in_err-power.ensures.ok_part at c.read_token.ensures))
 
 pub loop-at-preserved : goal.loop-at-preserved
 loop-at-preserved c =
-    reading_more c.loop-at.invariant c.loop-at-test.true c.in-Spelled.ensures
-    (reading_keeps c.loop-at.invariant c.in-Spelled.ensures (omega arith) (omega arith) (omega arith))
-    c.keep-powers.ensures
-
-pub returns-then-powers-gt-LIMIT : goal.returns-then-powers-gt-LIMIT
-returns-then-powers-gt-LIMIT c = reading_large c.loop-at.invariant c.loop-at-test.false c.if-powers-gt-LIMIT.true
+    let token = rw c.in_ok-power.ensures.ok_part at c.read_token.ensures in
+    reading_more c.loop-at.invariant c.loop-at-test.true token
+    (reading_keeps c.loop-at.invariant token (omega arith) (omega arith) (omega arith)) c.keep-powers.ensures
 
 pub returns : goal.returns
-returns c = reading_read c.loop-at.invariant c.loop-at-test.false c.if-powers-gt-LIMIT.false
+returns c = rw c.ok_or-2.ensures.value (reading_done _ c.loop-at.invariant c.loop-at-test.false)

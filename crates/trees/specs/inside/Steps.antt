@@ -26,7 +26,3 @@ pub record ShapeFits (e : List ℕ) (n : ℕ) (buffer : List ℕ) : Type 0 where
   pub enough : needed 0 e ≤ n
   pub small : n ≤ max_carets
   pub room : shape_size n ≤ length buffer
-
--- Trees of at most so many carets are written from a short array.
-abbrev pub small_carets : ℕ
-small_carets = 64

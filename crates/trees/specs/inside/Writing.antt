@@ -4,9 +4,10 @@
 -- Assumes nothing.
 use Rattle.std.specs.Prelude.{◌≡◌, cond, List, [], ◌∷◌, ◌++◌, ℕ, zero, suc, ◌+◌, length, replicate, ltb}
 use Rattle.std.proofs.lemmas.List.Edits.{sets}
+use Rattle.std.specs.Prelude.{Result, Ok, Err}
+use Rattle.refusals.specs.declared.Failure.{Failure}
+use Rattle.refusals.specs.declared.Failure.TheVariants.{Refused, Unfit}
 use Rattle.refusals.specs.Outcomes.{Outcome, accepted, refused, after, then, refusal}
-use Rattle.trees.specs.declared.Pairing.{Pairing}
-use Rattle.trees.specs.declared.Pairing.TheVariants.{Carets, Refused, Unfit}
 use Rattle.trees.specs.Building.{tree_of}
 use Rattle.trees.specs.Pairs.{carets_of_sides, max_carets}
 use Rattle.trees.specs.Shapes.{shape, shape_size}
@@ -20,10 +21,10 @@ nodes_from (e ∷ es) zero = 1 ∷ (replicate e 1 ++ (0 ∷ nodes_from es e))
 nodes_from (e ∷ es) (suc o) = replicate e 1 ++ (0 ∷ nodes_from es (o + e))
 
 -- The outcome of each answer: 0 is no number of the paper, and no call of the paper meets it.
-abbrev pub pairing_of : Pairing → Outcome ℕ
-pairing_of (Carets n) = accepted n
-pairing_of (Refused r) = refusal r
-pairing_of Unfit = refused 0 0
+abbrev pub pairing_of : Result ℕ Failure → Outcome ℕ
+pairing_of (Ok n) = accepted n
+pairing_of (Err (Refused r)) = refusal r
+pairing_of (Err Unfit) = refused 0 0
 
 -- The number of carets of two tables, whose exponents behind the last entry are 0; tables with more than `max_carets`
 -- entries, or with more carets than a form within the limits has, are unfit.
@@ -44,7 +45,7 @@ abbrev pub shape_after : Outcome ℕ → (es buffer : List ℕ) → List ℕ
 shape_after o es buffer = after o buffer (λ n. sets buffer 0 (shape (tree_of n es)))
 
 -- The shapes of the pair were written: T− has the exponents a, T+ the exponents b.
-pub record WrotePair (b a minus plus minus' plus' : List ℕ) (r : Pairing) : Type 0 where
+pub record WrotePair (b a minus plus minus' plus' : List ℕ) (r : Result ℕ Failure) : Type 0 where
   pub result : pairing_of r ≡ pair_carets b a (length minus) (length plus)
   pub t_minus : minus' ≡ shape_after (pair_carets b a (length minus) (length plus)) a minus
   pub t_plus : plus' ≡ shape_after (pair_carets b a (length minus) (length plus)) b plus

@@ -5,9 +5,11 @@
 use Rattle.std.specs.Prelude.{◌≡◌, true, cond, List, [], ◌∷◌, ℕ, suc, ◌+◌, ◌<◌, ◌≤◌, ◌^◌, length, ltb}
 use Rattle.std.proofs.Math.Option.{none, some}
 use Rattle.std.proofs.lemmas.List.Edits.{sets}
+use Rattle.std.specs.Prelude.{Option, Some, None, Result, Ok, Err}
 use Rattle.group.specs.Letters.{Word}
 use Rattle.group.specs.Forms.{Form}
 use Rattle.group.specs.Limits.{limit}
+use Rattle.refusals.specs.declared.Refusal.{Refusal}
 use Rattle.refusals.specs.declared.Refusal.TheVariants.{HolderFull, RegisterFull}
 use Rattle.refusals.specs.Outcomes.{Outcome, accepted, then, refusal}
 use Rattle.refusals.specs.Memory.{Memory}
@@ -18,14 +20,12 @@ use Rattle.words.specs.Recording.{encode_word, judged_record, judged_with}
 use Rattle.registers.specs.Format.{Register, register_bytes, register_most, number_most, live_most}
 use Rattle.registers.specs.Format.{entry_base, first_size, entry_field, end_mark}
 use Rattle.registers.specs.Reading.{number_for, read_register}
-use Rattle.registers.specs.declared.Search.{Search}
-use Rattle.registers.specs.declared.Search.TheVariants.{Number, Nothing}
 use Rattle.updates.specs.declared.Account.{Account}
 use Rattle.updates.specs.declared.Entered.{Entered}
 use Rattle.updates.specs.declared.Entered.TheVariants as Answers
 use Rattle.updates.specs.declared.deciding.Place.{Place}
 use Rattle.updates.specs.declared.deciding.Decision.{Decision}
-use Rattle.updates.specs.declared.deciding.Decision.TheVariants.{New, Present, Refused}
+use Rattle.updates.specs.declared.deciding.Decision.TheVariants.{New, Present}
 use Rattle.updates.specs.Accounts.{account_in, raised}
 use Rattle.updates.specs.Entering.{Found, answered, entered, with_entry, stored_form}
 
@@ -34,17 +34,17 @@ abbrev pub entry_length : ℕ → ℕ
 entry_length n = head_size + entry_base + n
 
 -- A new entry with a record of n bytes behind `end`, in a buffer of m bytes, or 14.
-abbrev pub roomed : Account → (last end n m : ℕ) → Decision
+abbrev pub roomed : Account → (last end n m : ℕ) → Result Decision Refusal
 roomed a last end n m =
     cond (ltb last number_most)
-    (cond (ltb m (end + entry_length n)) (Refused RegisterFull)
-    (New (record { number = suc last; end = end; account = a })))
-    (Refused RegisterFull)
+    (cond (ltb m (end + entry_length n)) (Err RegisterFull)
+    (Ok (New (record { number = suc last; end = end; account = a }))))
+    (Err RegisterFull)
 
 -- The entry that holds the element, else 13, else 14, else a new entry.
-abbrev pub settled : Search → Account → (last end n m : ℕ) → Decision
-settled (Number k) a last end n m = Present k a
-settled Nothing a last end n m = cond (ltb a.live live_most) (roomed a last end n m) (Refused HolderFull)
+abbrev pub settled : Option ℕ → Account → (last end n m : ℕ) → Result Decision Refusal
+settled (Some k) a last end n m = Ok (Present k a)
+settled None a last end n m = cond (ltb a.live live_most) (roomed a last end n m) (Err HolderFull)
 
 -- What a filing of a form comes to.
 abbrev pub answered_form : List ℕ → (holder : ℕ) → Form → Outcome Found
@@ -68,24 +68,24 @@ pub record IsNew (f : Form) (h : ℕ) (s : List ℕ) (p : Place) : Type 0 where
   pub account : p.account ≡ account_in h register
 
 -- What a decision says of a form that is filed.
-abbrev pub DecidedAs : (f : Form) (h : ℕ) (s : List ℕ) → Decision → Type 0
-DecidedAs f h s (New p) = IsNew f h s p
-DecidedAs f h s (Present k a) = IsPresent f h s k a
-DecidedAs f h s (Refused r) = answered_form s h f ≡ refusal r
+abbrev pub DecidedAs : (f : Form) (h : ℕ) (s : List ℕ) → Result Decision Refusal → Type 0
+DecidedAs f h s (Ok (New p)) = IsNew f h s p
+DecidedAs f h s (Ok (Present k a)) = IsPresent f h s k a
+DecidedAs f h s (Err r) = answered_form s h f ≡ refusal r
 
 -- The decision on a record's bytes.
-pub record Judged (bytes : List ℕ) (h : ℕ) (s : List ℕ) (d : Decision) : Type 0 where
+pub record Judged (bytes : List ℕ) (h : ℕ) (s : List ℕ) (d : Result Decision Refusal) : Type 0 where
   pub are_bytes : Bytes s
   pub decides : (f : Form) → bytes ≡ encode f → DecidedAs f h s d
 
 -- The decision on a word with tables and a buffer for its record, and one of n bytes for the record that is stored.
-pub record DecidedWith (word : List ℕ) (m : Memory) (n : ℕ) (h : ℕ) (s : List ℕ) (d : Decision) : Type 0 where
+pub record DecidedWith (word : List ℕ) (m : Memory) (n : ℕ) (h : ℕ) (s : List ℕ) (d : Result Decision Refusal) : Type 0 where
   pub are_bytes : Bytes s
   pub decides : (w : Word) → judged_with word m ≡ accepted w → length (encode_word w) ≤ n
       → DecidedAs (stored_form w) h s d
 
 -- The decision on a word, whatever is lent with it: it is judged beside tables and a buffer that are long enough.
-pub record Decided (word : List ℕ) (h : ℕ) (s : List ℕ) (d : Decision) : Type 0 where
+pub record Decided (word : List ℕ) (h : ℕ) (s : List ℕ) (d : Result Decision Refusal) : Type 0 where
   pub are_bytes : Bytes s
   pub decides : (w : Word) → judged_record word (suc limit) (suc limit) (buffer_size limit) ≡ accepted w
       → DecidedAs (stored_form w) h s d
@@ -124,10 +124,8 @@ pub record PutNew (p : Place) (bytes s s' : List ℕ) (r : Entered) : Type 0 whe
 abbrev pub Committable : Decision → (bytes s : List ℕ) → Type 0
 Committable (New p) bytes s = RoomFor p bytes s
 Committable (Present k a) bytes s = a.live + 0 < 2 ^ 64
-Committable (Refused r) bytes s = Unit {0}
 
 -- The register and the answer, by a decision.
 abbrev pub Committed : Decision → (bytes s s' : List ℕ) → Entered → Type 0
 Committed (New p) bytes s s' r = PutNew p bytes s s' r
 Committed (Present k a) bytes s s' r = (s' ≡ s) × (r ≡ Answers.Present k (raised a 0))
-Committed (Refused q) bytes s s' r = (s' ≡ s) × (r ≡ Answers.Refused q)

@@ -1,5 +1,5 @@
 -- The steps of the list call, for the functions inside this crate. Assumes nothing.
-use Rattle.std.specs.Prelude.{◌≡◌, List, ℕ, ◌+◌, ◌≤◌, ◌<◌, length}
+use Rattle.std.specs.Prelude.{◌≡◌, List, ℕ, ◌≤◌, ◌<◌, length}
 use Rattle.lists.specs.inside.Writes.{Wrote}
 use Rattle.lines.specs.Lines.{lines_of}
 use Rattle.group.specs.Forms.{b_side, a_side}
@@ -19,16 +19,16 @@ pub record LongTables (m : Memory) : Type 0 where
   pub b_long : limit < length m.b
   pub a_long : limit < length m.a
 
--- There is room for the item of a line at a place of the output.
-pub record ItemRoom (line : List ℕ) (m : Memory) (at : ℕ) : Type 0 where
+-- There is room for the item of a line at the front of the output.
+pub record ItemRoom (line : List ℕ) (m : Memory) : Type 0 where
   pub tables : LongTables m
-  pub roomy : at + buffer_size (length line) ≤ length m.buffer
+  pub roomy : buffer_size (length line) ≤ length m.buffer
 
--- The item of a line was put at a place of the output, and the tables are as the word's call leaves them.
-pub record ItemPut (line : List ℕ) (entry : Memory) (at : ℕ) (exit : Memory) (end : ℕ) : Type 0 where
+-- The item of a line was put at the front of the output, and the tables are as the word's call leaves them.
+pub record ItemPut (line : List ℕ) (entry exit : Memory) (end : ℕ) : Type 0 where
   pub b_table : exit.b ≡ table_after b_side (line_read line) entry.b
   pub a_table : exit.a ≡ table_after a_side (line_read line) entry.a
-  pub bytes : Wrote (item (line_read line)) entry.buffer at exit.buffer end
+  pub bytes : Wrote (item (line_read line)) entry.buffer 0 exit.buffer end
 
 -- There is room for the items of all lines.
 pub record ListRoom (list : List ℕ) (m : Memory) : Type 0 where

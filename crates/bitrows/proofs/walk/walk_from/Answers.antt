@@ -1,6 +1,6 @@
--- `walk_from` meets its contract. Assumes nothing.
-use Rattle.bitrows.proofs.ByteTables.{byte_table}
+use native.Mathlib.Omega.{arith}
+use Rattle.bitrows.proofs.Along.{along_more}
 use Rattle.bitrows.proofs.walk.walk_from.Goals as goal
 
-pub walk_by-requires : goal.walk_by-requires
-walk_by-requires c = byte_table
+pub loop-w-preserved : goal.loop-w-preserved
+loop-w-preserved c = along_more _ c.loop-w.invariant (omega arith) c.step-w.ensures.reach

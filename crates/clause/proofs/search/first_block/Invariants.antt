@@ -1,11 +1,7 @@
 -- `first_block` meets its contract. Assumes nothing.
-use Prim.Native.Nat.{suc, ◌-◌, ◌≤◌}
-use Rattle.group.specs.Limits.{limit}
+use Prim.Native.Nat.{◌*◌}
 use Rattle.clause.specs.inside.Tables.{Unbroken}
 use Rattle.clause.proofs.search.first_block.Given as goal
 
-abbrev pub invariant-loop-start : goal.invariant-loop-start
-invariant-loop-start l = (l.start ≤ suc limit) × Unbroken l.b l.a l.start
-
-abbrev pub decreases-loop-start : goal.decreases-loop-start
-decreases-loop-start l = suc limit - l.start
+abbrev pub invariant-loop-k : goal.invariant-loop-k
+invariant-loop-k l = Unbroken l.b l.a (64 * l.k)

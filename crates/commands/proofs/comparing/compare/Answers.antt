@@ -9,8 +9,8 @@ pub returns : goal.returns
 returns c =
     let x = c.args in
     says_same
-    (compared_said x.word1.now x.word2.now {m = memory x.b1.now x.a1.now x.record1.now}
-    {n = memory x.b2.now x.a2.now x.record2.now}
+    (compared_said x.word1.now x.word2.now {m = memory x.first.now.b x.first.now.a x.first.now.«record»}
+    {n = memory x.second.now.b x.second.now.a x.second.now.«record»}
     (record {
       b = search rules;
       a = search rules;
@@ -21,5 +21,5 @@ returns c =
       a = search rules;
       buffer = search rules;
     })
-    c.same_element-comparison.ensures)
+    c.same_element-decision.ensures)
     c.say_decision.ensures

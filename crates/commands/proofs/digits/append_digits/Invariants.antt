@@ -1,11 +1,8 @@
--- `append_digits` meets its contract: after i turns the digits of the first i nodes are appended. Assumes nothing.
-use Prim.Native.Nat.{◌-◌}
-use lib.ListN.{length}
-use Rattle.commands.proofs.ShapeDigits.{Passing}
+-- `append_digits` meets its contract: the digits of the nodes so far are appended. Assumes nothing.
+use Rattle.std.proofs.Common.{take}
+use Rattle.appending.specs.inside.Appending.{Appended}
+use Rattle.commands.specs.Records.{digits_of}
 use Rattle.commands.proofs.digits.append_digits.Given as goal
 
-abbrev pub invariant-loop-i : goal.invariant-loop-i
-invariant-loop-i l = Passing l.shape l.initial.out l.initial.end l.out l.end l.i
-
-abbrev pub decreases-loop-i : goal.decreases-loop-i
-decreases-loop-i l = length l.shape - l.i
+abbrev pub invariant-loop-x : goal.invariant-loop-x
+invariant-loop-x l = Appended (digits_of (take l.x-index l.shape)) l.initial.out l.initial.end l.out l.end

@@ -14,4 +14,4 @@ returns c =
     (append-then c.append-parted.ensures
     (append-then place
     (append-then c.append-colon.ensures
-    (append-then c.append_reason-explained.ensures c.append.ensures)))))
+    (append-then (append_same c.reason.ensures c.append-explained.ensures) c.append.ensures)))))

@@ -1,4 +1,5 @@
 -- `send` meets its contract: too long a text, or the record that is found. Assumes nothing.
+use borrow.Author.Rules.{rules}
 use mathlib.Core.Path.{sym, ◌∙◌}
 use Rattle.commands.specs.Answers.{denying}
 use Rattle.commands.specs.Words.{long_text, long, read}
@@ -14,8 +15,9 @@ returns-then-is_long c =
 
 pub returns : goal.returns
 returns c =
+    let p = c.put_record-reply.ensures in
     record {
       what = _;
-      found = read (sym c.is_long.ensures ∙ c.if-is_long.false) _ c.find_record-reply.ensures;
-      says = c.reply_hex.ensures;
+      found = read (sym c.is_long.ensures ∙ c.if-is_long.false) _ p.found;
+      says = c.answer.ensures _ _ (search rules) p.reply;
     }

@@ -27,4 +27,4 @@ pub returns : goal.returns
 returns c =
     wrote_same
     (entry_bytes _ _ (omega (arith, c.if-exponent-eq0.false)))
-    (write_then c.put_two-next.ensures c.put_two.ensures)
+    (write_then c.put_two-next.ensures (rw c.from.ensures at c.put_two.ensures))

@@ -9,6 +9,3 @@ abbrev pub invariant-loop-i : goal.invariant-loop-i
 invariant-loop-i l =
     Going l.before l.initial.stack l.front l.height l.before l.stack l.i l.h × (l.k ≤ l.i) × (l.i ≤ l.front)
     × (l.i + l.h ≡ l.front + l.height)
-
-abbrev pub decreases-loop-i : goal.decreases-loop-i
-decreases-loop-i l = l.i

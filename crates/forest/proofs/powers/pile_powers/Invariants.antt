@@ -6,6 +6,3 @@ use Rattle.forest.proofs.powers.pile_powers.Given as goal
 abbrev pub invariant-loop-i : goal.invariant-loop-i
 invariant-loop-i l =
     RunningPowers l.indices l.exponents l.sides l.lefts l.rights l.before l.stack l.used l.front l.height l.i
-
-abbrev pub decreases-loop-i : goal.decreases-loop-i
-decreases-loop-i l = l.i

@@ -9,6 +9,3 @@ abbrev pub invariant-loop-i : goal.invariant-loop-i
 invariant-loop-i l =
     ((stack : List ℕ) → Going l.before stack l.front l.height l.before stack l.i l.height) × (l.k ≤ l.i)
     × (l.i ≤ l.front)
-
-abbrev pub decreases-loop-i : goal.decreases-loop-i
-decreases-loop-i l = l.i

@@ -1,6 +1,6 @@
 -- `leaf_node` meets its contract. Assumes nothing.
 use native.Mathlib.Omega.{arith}
-use Rattle.growing.proofs.LeafSteps.{held_room, held_few, leaf_asks, holds_of, leaf_found}
+use Rattle.growing.proofs.LeafSteps.{held_room, held_few, leaf_asks, holds_of, leaf_there, leaf_found}
 use Rattle.growing.proofs.inserting.leaf_node.Goals as goal
 
 pub number_of_leaf-j-requires : goal.number_of_leaf-j-requires
@@ -16,13 +16,16 @@ bounds-summary-j c =
       held_room c.requires.held,
     )
 
-pub overflow_cast-before : goal.overflow_cast-before
-overflow_cast-before c = record { fits = omega (arith, c.type_inv.summary c.number_of_leaf-j.result) }
-
 pub overflow_sub-before : goal.overflow_sub-before
 overflow_sub-before c =
-    held_few c.requires.held _ (holds_of c.numbers_of.ensures c.number_of_leaf-j.ensures).inside
+    rw c.from.ensures (held_few c.requires.held _ (holds_of c.numbers_of.ensures c.number_of_leaf-j.ensures).inside)
+
+pub unwrap-requires : goal.unwrap-requires
+unwrap-requires c =
+    leaf_there c.leaf_at.result c.requires (holds_of c.numbers_of.ensures c.number_of_leaf-j.ensures)
+    (rw (c.from.ensures, c.from-2.ensures) at c.leaf_at.ensures)
 
 pub returns : goal.returns
 returns c =
-    leaf_found c.requires (holds_of c.numbers_of.ensures c.number_of_leaf-j.ensures) c.leaf_at.ensures
+    let found = rw (c.from.ensures, c.from-2.ensures) at c.leaf_at.ensures in
+    leaf_found c.requires (holds_of c.numbers_of.ensures c.number_of_leaf-j.ensures) (rw c.unwrap.ensures at found)

@@ -5,7 +5,7 @@ use lib.ListN.{length}
 use Rattle.lengths.proofs.reader.+read_inner_read_side.Given as goal
 
 abbrev pub decreases-read_inner : goal.decreases-read_inner
-decreases-read_inner l = 2 * (length l.shape.now - l.at)
+decreases-read_inner l = 2 * (length l.shape.now - l.from.at)
 
 abbrev pub decreases-read_side : goal.decreases-read_side
-decreases-read_side l = 2 * (length l.shape.now - l.at) + 1
+decreases-read_side l = 2 * (length l.shape.now - l.from.at) + 1

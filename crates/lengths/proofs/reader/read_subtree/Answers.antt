@@ -11,8 +11,8 @@ loop-pending-init c = amidst_start _ _ _
 pub read_node-inside-requires : goal.read_node-inside-requires
 read_node-inside-requires c = amidst_ready c.loop-pending.invariant c.requires c.loop-pending-test.true
 
-pub overflow_add-p : goal.overflow_add-p
-overflow_add-p c =
+pub overflow_add-place : goal.overflow_add-place
+overflow_add-place c =
     let ready = amidst_ready c.loop-pending.invariant c.requires c.loop-pending-test.true in
     let kept = writing_length (c.loop-pending.invariant.writing 0) in
     omega (arith, node_there ready.readable (omega arith), c.well_formed, kept)

@@ -3,7 +3,4 @@ use Rattle.lengths.proofs.SumSteps.{Summed}
 use Rattle.lengths.proofs.sums.sum_weights.Given as goal
 
 abbrev pub invariant-loop-k : goal.invariant-loop-k
-invariant-loop-k l = Summed l.minus l.plus l.n l.k l.sum l.m_next l.m_later l.p_next l.p_later
-
-abbrev pub decreases-loop-k : goal.decreases-loop-k
-decreases-loop-k l = l.k
+invariant-loop-k l = Summed l.minus l.plus l.n l.k l.sum l.m.next l.m.later l.p.next l.p.later

@@ -1,19 +1,22 @@
--- `blocks::is_clear` meets its contract. Assumes nothing.
-use native.Mathlib.Omega.{arith}
+-- `blocks::is_clear` meets its contract: too few bytes, or a whole block. Assumes nothing.
+use Rattle.std.proofs.Common.{length, take, ap, ◌∙◌, arith}
+use Rattle.std.proofs.lemmas.Slice.{between_to_end}
 use Rattle.lines.proofs.BlockTests.{short_block, tested_block}
 use Rattle.lines.proofs.blocks.is_clear.Goals as goal
 
-pub returns-then-bytes-from : goal.returns-then-bytes-from
-returns-then-bytes-from c =
-    let args = c.args in
-    short_block args.bytes.now args.from 64 (omega arith)
+pub returns-in_default : goal.returns-in_default
+returns-in_default c = short_block c.args.bytes.now c.args.from 64 (omega (arith, c.in_default.ensures.lookup))
 
-pub returns-then-bytes-from-lt-BLOCK : goal.returns-then-bytes-from-lt-BLOCK
-returns-then-bytes-from-lt-BLOCK c =
-    let args = c.args in
-    short_block args.bytes.now args.from 64 (omega arith)
+pub returns-in_default-get : goal.returns-in_default-get
+returns-in_default-get c =
+    short_block c.args.bytes.now c.args.from 64
+    (omega (arith, c.in_default-get.ensures.lookup, c.in-Some.ensures.lookup))
 
 pub returns : goal.returns
 returns c =
-    let args = c.args in
-    tested_block args.bytes.now args.from 64 c.has_feed.result c.has_feed.ensures
+    let s = c.args.bytes.now in
+    let rest = c.in-Some.ensures.lookup in
+    let block = c.in-Some-get.ensures.lookup in
+    tested_block s _ c.args.from 64 _ (omega (arith, rest, block))
+    (block.0.2 ∙ ap (take 64) (rest.0.2 ∙ between_to_end s c.args.from (length s) (omega arith)))
+    c.has_feed.ensures

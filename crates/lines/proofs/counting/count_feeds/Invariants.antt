@@ -1,12 +1,8 @@
 -- `counting::count_feeds` meets its contract: those counted, and those that are left, are all. Assumes nothing.
-use mathlib.Core.Path.{◌≡◌}
-use Prim.Native.Nat.{◌+◌, ◌-◌, ◌≤◌}
-use lib.ListN.{length, drop}
+use Rattle.std.proofs.Common.{◌≡◌, ◌+◌, ◌≤◌, drop}
 use Rattle.lines.specs.inside.Counting.{count_feeds_value}
 use Rattle.lines.proofs.counting.count_feeds.Given as goal
 
-abbrev pub invariant-loop-i : goal.invariant-loop-i
-invariant-loop-i l = (l.n ≤ l.i) × (l.n + count_feeds_value (drop l.i l.bytes) ≡ count_feeds_value l.bytes)
-
-abbrev pub decreases-loop-i : goal.decreases-loop-i
-decreases-loop-i l = length l.bytes - l.i
+abbrev pub invariant-loop-x : goal.invariant-loop-x
+invariant-loop-x l =
+    (l.n ≤ l.x-index) × (l.n + count_feeds_value (drop l.x-index l.bytes) ≡ count_feeds_value l.bytes)

@@ -1,6 +1,9 @@
 -- `write` meets its contract: the b side, the a side behind it, and both placed. Assumes nothing.
 use mathlib.Core.Path.{sym}
+use Prim.Native.Nat.{◌≤◌}
 use native.Mathlib.Omega.{arith}
+use lib.ListN.{length}
+use lib.Seq.{length-take-le}
 use Rattle.lists.proofs.Writes.{write_then, wrote_same}
 use Rattle.notation.specs.inside.Tables.{rising_in, falling_in, powers_of}
 use Rattle.tokens.proofs.Texts.{further_append}
@@ -30,8 +33,8 @@ write_falling-end-requires c =
           );
     }
 
-pub place-requires : goal.place-requires
-place-requires c =
+pub slice_bounds-further-end : goal.slice_bounds-further-end
+slice_bounds-further-end c =
     omega (
       arith,
       both-length c.args.b.now c.args.a.now,
@@ -41,6 +44,20 @@ place-requires c =
       c.write_falling-end.auto,
       own_room c.requires.a_len_bound,
     )
+
+pub slice_bounds-place-end : goal.slice_bounds-place-end
+slice_bounds-place-end c =
+    let within : c.write_falling-end.result ≤ length c.write_falling-end.new.out =
+    omega (
+      arith,
+      both-length c.args.b.now c.args.a.now,
+      c.write_rising-middle.ensures,
+      c.write_rising-middle.auto,
+      c.write_falling-end.ensures,
+      c.write_falling-end.auto,
+      own_room c.requires.a_len_bound,
+    ) in
+    sym (length-take-le c.write_falling-end.result c.write_falling-end.new.out within)
 
 pub returns : goal.returns
 returns c =

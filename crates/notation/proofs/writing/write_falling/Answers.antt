@@ -3,7 +3,7 @@ use mathlib.Core.List.{List}
 use Prim.Native.Nat.{ℕ, suc}
 use native.Mathlib.Omega.{arith}
 use lib.Seq.{take_all}
-use Rattle.lists.proofs.Writes.{write_start, writing_same, write_done, writing_length}
+use Rattle.lists.proofs.Writes.{write_start, writing_same, write_done}
 use Rattle.group.specs.Limits.{limit}
 use Rattle.tokens.specs.Texts.{further_text}
 use Rattle.notation.specs.inside.Tables.{falling_in}
@@ -13,39 +13,21 @@ use Rattle.notation.proofs.writing.write_falling.Goals as goal
 
 pub loop-k-init : goal.loop-k-init
 loop-k-init c =
-    let a = c.args.a.now in (
-      omega arith,
-      writing_same (ap (λ (t : List ℕ). further_text (falling_in 0 t)) (sym (take_all (suc limit) a (omega arith))))
-          (write_start _ _ _),
-    )
-
-pub overflow_sub-k : goal.overflow_sub-k
-overflow_sub-k c = omega arith
-
-pub offset_bounds-a-k : goal.offset_bounds-a-k
-offset_bounds-a-k c = omega arith
-
-pub bounds-a-k : goal.bounds-a-k
-bounds-a-k c = omega arith
+    writing_same
+    (ap (λ (t : List ℕ). further_text (falling_in 0 t)) (sym (take_all (suc limit) c.args.a.now (omega arith))))
+    (write_start _ _ _)
 
 pub put_power-at-requires : goal.put_power-at-requires
 put_power-at-requires c =
     let next = falling_next c.args.a.now c.loop-k.k (omega arith) (omega arith) in
-    next_room c.loop-k.invariant.1 next (omega arith)
-
-pub loop-k-smaller : goal.loop-k-smaller
-loop-k-smaller c = omega arith
+    next_room c.loop-k.invariant next (omega arith)
 
 pub loop-k-preserved : goal.loop-k-preserved
 loop-k-preserved c =
     let next = falling_next c.args.a.now c.loop-k.k (omega arith) (omega arith) in
-    (omega arith, next_more c.loop-k.invariant.1 next c.put_power-at.ensures)
-
-pub shape_of-out : goal.shape_of-out
-shape_of-out c = writing_length c.loop-k.invariant.1
+    next_more c.loop-k.invariant next c.put_power-at.ensures
 
 pub returns : goal.returns
 returns c =
     write_done
-    (writing_same (ap further_text (falling_done c.args.a.now c.loop-k.k (omega arith)))
-    c.loop-k.invariant.1)
+    (writing_same (ap further_text (falling_done c.args.a.now c.loop-k.k (omega arith))) c.loop-k.invariant)

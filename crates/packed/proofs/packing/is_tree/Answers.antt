@@ -1,53 +1,38 @@
 use native.Mathlib.Omega.{arith}
 use Rattle.packed.proofs.PackSteps.{tree_long, closing_start, closing_more, closing_stuck}
 use Rattle.packed.proofs.PackSteps.{closing_other, closing_done}
+use Rattle.packed.proofs.packing.is_tree.Goals.{then-pending-eq0-via-then-pending-eq0}
+use Rattle.packed.proofs.packing.is_tree.Goals.{then-pending-eq0-via-else-pending-eq0+then-node-gt1}
 use Rattle.packed.proofs.packing.is_tree.Goals as goal
-
-pub overflow_mul-t-5 : goal.overflow_mul-t-5
-overflow_mul-t-5 c = record { fits = omega arith }
-
-pub overflow_add-t-6 : goal.overflow_add-t-6
-overflow_add-t-6 c = record { fits = omega arith }
 
 pub returns-then-shape : goal.returns-then-shape
 returns-then-shape c = tree_long c.args.shape.now (omega arith)
 
-pub loop-i-init : goal.loop-i-init
-loop-i-init c = closing_start _ (omega arith)
-
-pub bounds-shape-i : goal.bounds-shape-i
-bounds-shape-i c = omega arith
-
-pub overflow_cast-node : goal.overflow_cast-node
-overflow_cast-node c = record { fits = omega (arith, c.type_inv.shape c.loop-i.i) }
+pub loop-node-init : goal.loop-node-init
+loop-node-init c = closing_start _ (omega arith)
 
 pub returns-then-pending-eq0 : goal.returns-then-pending-eq0
-returns-then-pending-eq0 c = closing_stuck c.loop-i.invariant (omega arith) (omega arith)
-
-pub returns-then-node-gt1 : goal.returns-then-node-gt1
-returns-then-node-gt1 c = closing_other c.loop-i.invariant (omega arith) (omega arith)
+returns-then-pending-eq0 c =
+    elim c.then-pending-eq0.branch [
+      | then-pending-eq0-via-then-pending-eq0 w ↦
+          closing_stuck c.loop-node.invariant (omega arith) (omega (arith, w.if-pending-eq0.true))
+      | then-pending-eq0-via-else-pending-eq0+then-node-gt1 w ↦
+          closing_other c.loop-node.invariant (omega arith) (omega (arith, w.if-node-gt1.true))
+    ]
 
 pub overflow_mul-pending : goal.overflow_mul-pending
 overflow_mul-pending c = record { fits = omega arith }
 
 pub overflow_add-pending : goal.overflow_add-pending
 overflow_add-pending c =
-    let inv = c.loop-i.invariant in
+    let inv = c.loop-node.invariant in
     record { fits = omega (arith, inv.few, inv.small) }
 
 pub overflow_sub-pending : goal.overflow_sub-pending
 overflow_sub-pending c = omega arith
 
-pub overflow_add-i : goal.overflow_add-i
-overflow_add-i c =
-    let inv = c.loop-i.invariant in
-    record { fits = omega (arith, inv.small) }
-
-pub loop-i-smaller : goal.loop-i-smaller
-loop-i-smaller c = omega arith
-
-pub loop-i-preserved : goal.loop-i-preserved
-loop-i-preserved c = closing_more c.loop-i.invariant (omega arith) (omega arith) (omega arith)
+pub loop-node-preserved : goal.loop-node-preserved
+loop-node-preserved c = rw c.from.ensures (closing_more c.loop-node.invariant (omega arith) (omega arith) (omega arith))
 
 pub returns : goal.returns
-returns c = closing_done c.loop-i.invariant (omega arith)
+returns c = closing_done c.loop-node.invariant (omega arith)

@@ -4,6 +4,3 @@ use Rattle.packed.proofs.packing.pack_number.Given as goal
 
 abbrev pub invariant-loop-k : goal.invariant-loop-k
 invariant-loop-k l = PackingPart 64 l.shape l.from l.k l.x
-
-abbrev pub decreases-loop-k : goal.decreases-loop-k
-decreases-loop-k l = l.k

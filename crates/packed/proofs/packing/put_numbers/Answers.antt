@@ -16,20 +16,10 @@ overflow_mul-j c =
 pub pack_number-x-requires : goal.pack_number-x-requires
 pack_number-x-requires c = c.requires.few_nodes
 
-pub offset_bounds-numbers-j : goal.offset_bounds-numbers-j
-offset_bounds-numbers-j c =
-    let pre = c.requires in
-    record { fits = omega (arith, c.numbers_of-n.ensures, pre.few_nodes.small) }
-
 pub bounds-numbers-j : goal.bounds-numbers-j
 bounds-numbers-j c =
     let pre = c.requires in
     omega (arith, c.numbers_of-n.ensures, pre.room.in_numbers, c.loop-j.invariant.numbers_length)
-
-pub offset_bounds-summary-j : goal.offset_bounds-summary-j
-offset_bounds-summary-j c =
-    let pre = c.requires in
-    record { fits = omega (arith, c.numbers_of-n.ensures, pre.few_nodes.small) }
 
 pub bounds-summary-j : goal.bounds-summary-j
 bounds-summary-j c =
@@ -45,14 +35,6 @@ pub overflow_add-count : goal.overflow_add-count
 overflow_add-count c =
     let pre = c.requires in
     record { fits = omega (arith, filling_small pre.few_nodes c.loop-j.invariant _ c.pack_number-x.ensures) }
-
-pub overflow_add-j : goal.overflow_add-j
-overflow_add-j c =
-    let pre = c.requires in
-    record { fits = omega (arith, c.numbers_of-n.ensures, pre.few_nodes.small) }
-
-pub loop-j-smaller : goal.loop-j-smaller
-loop-j-smaller c = omega arith
 
 pub loop-j-preserved : goal.loop-j-preserved
 loop-j-preserved c =

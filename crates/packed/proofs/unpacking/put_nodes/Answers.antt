@@ -11,12 +11,6 @@ node_at-requires c = omega (arith, c.requires.within.there)
 pub bounds-shape-i : goal.bounds-shape-i
 bounds-shape-i c = omega (arith, c.loop-i.invariant.0.same_length)
 
-pub overflow_add-i : goal.overflow_add-i
-overflow_add-i c = record { fits = omega (arith, c.requires.within.small) }
-
-pub loop-i-smaller : goal.loop-i-smaller
-loop-i-smaller c = omega arith
-
 pub loop-i-preserved : goal.loop-i-preserved
 loop-i-preserved c =
     let pre = c.requires in (

@@ -1,7 +1,4 @@
 -- `put_tree` meets its contract: the table that was read gives the text of the tree. Assumes nothing.
-use Prim.Native.Nat.{ℕ}
-use native.Mathlib.Omega.{arith}
-use lib.ListN.{length-replicate}
 use Rattle.appending.proofs.Appending.{append_same}
 use Rattle.pictures.proofs.TreeTables.{table_characters_lem}
 use Rattle.pictures.proofs.characters.put_tree.Goals as goal
@@ -9,6 +6,4 @@ use Rattle.pictures.proofs.characters.put_tree.Goals as goal
 pub returns : goal.returns
 returns c =
     let a = c.args in
-    λ t e count. append_same
-    (table_characters_lem t c.read.ensures (length-replicate {A = ℕ} 600 0) e count (omega arith) a.head.now)
-    c.put_table.ensures
+    λ t e count. append_same (table_characters_lem c.of.ensures t e count a.head.now) c.put_characters.ensures

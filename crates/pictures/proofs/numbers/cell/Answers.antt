@@ -8,5 +8,5 @@ returns-then-c-eq0 c =
     let a = c.args in
     c.digit.ensures ∙ sym (digit_even a.place a.c c.if-c-eq0.true)
 
-pub returns : goal.returns
-returns c = let a = c.args in sym (digit_odd a.place a.c c.if-c-eq0.false)
+pub returns-else-c-eq0 : goal.returns-else-c-eq0
+returns-else-c-eq0 c = let a = c.args in sym (digit_odd a.place a.c c.if-c-eq0.false)

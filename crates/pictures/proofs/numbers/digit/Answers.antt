@@ -10,5 +10,5 @@ returns-then-place-k c = let a = c.args in sym (digit_here a.place a.k (omega ar
 pub returns-then-place-eq1 : goal.returns-then-place-eq1
 returns-then-place-eq1 c = let a = c.args in sym (digit_unit a.place a.k (omega arith) (omega arith))
 
-pub returns : goal.returns
-returns c = let a = c.args in sym (digit_none a.place a.k (omega arith) (λ z. omega arith))
+pub returns-else-place-eq1 : goal.returns-else-place-eq1
+returns-else-place-eq1 c = let a = c.args in sym (digit_none a.place a.k (omega arith) (λ z. omega arith))

@@ -10,17 +10,8 @@ use Rattle.pictures.proofs.numbers.put_digits.Goals as goal
 pub loop-c-init : goal.loop-c-init
 loop-c-init c = left_start _ _ _
 
-pub overflow_mul-n : goal.overflow_mul-n
-overflow_mul-n c = omega arith
-
 pub cell-requires : goal.cell-requires
 cell-requires c = omega arith
-
-pub overflow_add-c : goal.overflow_add-c
-overflow_add-c c = omega arith
-
-pub loop-c-smaller : goal.loop-c-smaller
-loop-c-smaller c = omega arith
 
 pub loop-c-preserved : goal.loop-c-preserved
 loop-c-preserved c =

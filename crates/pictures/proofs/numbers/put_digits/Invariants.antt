@@ -8,6 +8,3 @@ abbrev pub invariant-loop-c : goal.invariant-loop-c
 invariant-loop-c l =
     Left (digits_from l.place l.c (2 * l.n + 1 - l.c)) l.out l.end (digits_from l.place 0 (2 * l.n + 1 - 0))
     l.initial.out l.at
-
-abbrev pub decreases-loop-c : goal.decreases-loop-c
-decreases-loop-c l = 2 * l.n + 1 - l.c

@@ -10,12 +10,6 @@ loop-k-init c = left_start _ _ _
 pub put_leaf-end-requires : goal.put_leaf-end-requires
 put_leaf-end-requires c = omega arith
 
-pub overflow_add-k : goal.overflow_add-k
-overflow_add-k c = omega arith
-
-pub loop-k-smaller : goal.loop-k-smaller
-loop-k-smaller c = omega arith
-
 pub loop-k-preserved : goal.loop-k-preserved
 loop-k-preserved c =
     left_more (leaves_next c.args.n c.loop-k.k (omega arith)) c.loop-k.invariant

@@ -6,6 +6,3 @@ use Rattle.pictures.proofs.svg.put_leaves.Given as goal
 
 abbrev pub invariant-loop-k : goal.invariant-loop-k
 invariant-loop-k l = Left (leaves_svg l.k (suc l.n - l.k)) l.out l.end (leaves_svg 0 (suc l.n - 0)) l.initial.out l.at
-
-abbrev pub decreases-loop-k : goal.decreases-loop-k
-decreases-loop-k l = suc l.n - l.k

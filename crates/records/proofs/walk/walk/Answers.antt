@@ -12,8 +12,8 @@ number_at-j-requires c =
     let some-a : 0 < c.loop-p.q.left = c.if-q-gt0.true in
     omega (arith, some-a, c.loop-p.invariant.q_inside.within)
 
-pub pass-next_q-requires : goal.pass-next_q-requires
-pass-next_q-requires c =
+pub passed-next_q-requires : goal.passed-next_q-requires
+passed-next_q-requires c =
     let some-a : 0 < c.loop-p.q.left = c.if-q-gt0.true in
     omega (arith, some-a, c.loop-p.invariant.q_inside.within)
 
@@ -23,9 +23,9 @@ broken-requires c =
     let i = c.number_at-i.result in
     let j = c.number_at-j.result in
     let s = c.args.s.now in (
-      passed_inside s c.loop-p.p i j c.pass-next_p.ensures c.loop-p-test.true
+      passed_inside s c.loop-p.p i j c.passed-next_p.ensures c.loop-p-test.true
           c.loop-p.invariant.p_inside,
-      passed_inside s c.loop-p.q j i c.pass-next_q.ensures some-a c.loop-p.invariant.q_inside,
+      passed_inside s c.loop-p.q j i c.passed-next_q.ensures some-a c.loop-p.invariant.q_inside,
       c.number_at-i.ensures.upper_bound,
     )
 
@@ -33,22 +33,22 @@ pub returns-then-broken : goal.returns-then-broken
 returns-then-broken c =
     let some-a : 0 < c.loop-p.q.left = c.if-q-gt0.true in
     walk_stops c.loop-p.invariant c.loop-p-test.true some-a _ _
-    c.number_at-i.ensures.value c.number_at-j.ensures.value c.pass-next_p.ensures
-    c.pass-next_q.ensures c.broken.ensures c.requires c.if-broken.true
+    c.number_at-i.ensures.value c.number_at-j.ensures.value c.passed-next_p.ensures
+    c.passed-next_q.ensures c.broken.ensures c.requires c.if-broken.true
 
 pub loop-p-smaller : goal.loop-p-smaller
 loop-p-smaller c =
     let some-a : 0 < c.loop-p.q.left = c.if-q-gt0.true in
     passed_fewer c.loop-p.p c.loop-p.q c.number_at-i.result c.number_at-j.result
     c.loop-p-test.true some-a
-    c.pass-next_p.ensures c.pass-next_q.ensures
+    c.passed-next_p.ensures c.passed-next_q.ensures
 
 pub loop-p-preserved : goal.loop-p-preserved
 loop-p-preserved c =
     let some-a : 0 < c.loop-p.q.left = c.if-q-gt0.true in
     walk_next c.loop-p.invariant c.loop-p-test.true some-a _ _
-    c.number_at-i.ensures.value c.number_at-j.ensures.value c.pass-next_p.ensures
-    c.pass-next_q.ensures c.broken.ensures c.if-broken.false
+    c.number_at-i.ensures.value c.number_at-j.ensures.value c.passed-next_p.ensures
+    c.passed-next_q.ensures c.broken.ensures c.if-broken.false
 
 pub returns-else-q-gt0 : goal.returns-else-q-gt0
 returns-else-q-gt0 c = walk_ends_a c.requires c.loop-p.invariant c.if-q-gt0.false

@@ -1,85 +1,51 @@
--- `put_line` meets its contract: a refusal, or the tables and the record of the word. The scratch is long enough, so
--- that the call answers as word to record does. Assumes nothing.
-use mathlib.Core.Path.{refl, sym, ap}
+-- `put_line` meets its contract: a refusal, or the tables and the record of the word. Assumes nothing.
 use Prim.Native.Nat.{◌≤◌}
 use native.Mathlib.Omega.{arith}
 use lib.ListN.{length, length-take}
-use lib.Seq.{length-take-le}
 use borrow.Author.Rules.{rules}
 use Rattle.lists.proofs.Writes.{wrote_same}
-use Rattle.group.specs.Limits.{limit}
-use Rattle.refusals.specs.declared.Refusal.TheVariants.{BadFrame}
+use Rattle.refusals.specs.Memory.{memory}
 use Rattle.records.specs.Format.{buffer_size}
-use Rattle.words.specs.inside.Lending.{reply_in}
-use Rattle.words.proofs.Lent.{large_recorded}
-use Rattle.rows.proofs.LineReceipts.{receipt_refused, letters_within, record_within, receipt_row}
+use Rattle.words.specs.inside.Lending.{LineRoom}
+use Rattle.rows.proofs.LineReads.{full_room}
+use Rattle.rows.proofs.LineReceipts.{receipt_refused, letters_within, record_within, row_measured, receipt_row}
 use Rattle.rows.proofs.row.put_line.Goals as goal
 
-pub slice_bounds-put_tables-end : goal.slice_bounds-put_tables-end
-slice_bounds-put_tables-end c =
-    let few : length c.args.line.now ≤ limit =
-    letters_within c.requires.line_room
-    (large_recorded c.record_with-recording.ensures (search rules) (search rules) (search rules) refl) c.in-Bytes.n
-    (ap reply_in c.in-Bytes.is) in
-    omega (arith, c.requires.line_room.b_long few, c.record_with-recording.auto.b_table)
-
-pub slice_bounds-put_tables-end-in-Bytes : goal.slice_bounds-put_tables-end-in-Bytes
-slice_bounds-put_tables-end-in-Bytes c = sym (length-take-le _ _ (slice_bounds-put_tables-end c))
-
-pub slice_bounds-put_tables-end-in-Bytes-2 : goal.slice_bounds-put_tables-end-in-Bytes-2
-slice_bounds-put_tables-end-in-Bytes-2 c =
-    let few : length c.args.line.now ≤ limit =
-    letters_within c.requires.line_room
-    (large_recorded c.record_with-recording.ensures (search rules) (search rules) (search rules) refl) c.in-Bytes.n
-    (ap reply_in c.in-Bytes.is) in
-    omega (arith, c.requires.line_room.a_long few, c.record_with-recording.auto.a_table)
-
-pub slice_bounds-put_tables-end-in-Bytes-3 : goal.slice_bounds-put_tables-end-in-Bytes-3
-slice_bounds-put_tables-end-in-Bytes-3 c = sym (length-take-le _ _ (slice_bounds-put_tables-end-in-Bytes-2 c))
-
-pub slice_bounds-put_tables-end-in-Bytes-4 : goal.slice_bounds-put_tables-end-in-Bytes-4
-slice_bounds-put_tables-end-in-Bytes-4 c =
-    let few : length c.args.line.now ≤ limit =
-    letters_within c.requires.line_room
-    (large_recorded c.record_with-recording.ensures (search rules) (search rules) (search rules) refl) c.in-Bytes.n
-    (ap reply_in c.in-Bytes.is) in
-    let short : c.in-Bytes.n ≤ buffer_size (length c.args.line.now) =
-    record_within c.requires.line_room
-    (large_recorded c.record_with-recording.ensures (search rules) (search rules) (search rules) refl) c.in-Bytes.n
-    (ap reply_in c.in-Bytes.is) in
-    omega (arith, c.requires.line_room.buffer_long few, short, c.record_with-recording.auto.«record»)
-
-pub slice_bounds-put_tables-end-in-Bytes-5 : goal.slice_bounds-put_tables-end-in-Bytes-5
-slice_bounds-put_tables-end-in-Bytes-5 c = sym (length-take-le _ _ (slice_bounds-put_tables-end-in-Bytes-4 c))
+pub shared_ref_as_front-put_tables-in-Ok-2 : goal.shared_ref_as_front-put_tables-in-Ok-2
+shared_ref_as_front-put_tables-in-Ok-2 c =
+    let r = c.args.room.now in
+    let room : LineRoom c.args.line.now (memory r.b r.a r.«record») =
+    full_room (search rules) (search rules) (search rules) in
+    omega (
+      arith,
+      record_within room c.record_in-recorded.ensures c.in-Ok.n c.in-Ok.is,
+      letters_within room c.record_in-recorded.ensures c.in-Ok.n c.in-Ok.is,
+    )
 
 pub put_tables-requires : goal.put_tables-requires
 put_tables-requires c =
-    let short : c.in-Bytes.n ≤ buffer_size (length c.args.line.now) =
-    record_within c.requires.line_room
-    (large_recorded c.record_with-recording.ensures (search rules) (search rules) (search rules) refl) c.in-Bytes.n
-    (ap reply_in c.in-Bytes.is) in
-    omega (arith, length-take c.in-Bytes.n c.record_with-recording.new.«record», short, c.requires.line_in_bounds)
+    let r = c.args.room.now in
+    let room : LineRoom c.args.line.now (memory r.b r.a r.«record») =
+    full_room (search rules) (search rules) (search rules) in
+    let short : c.in-Ok.n ≤ buffer_size (length c.args.line.now) =
+    record_within room c.record_in-recorded.ensures c.in-Ok.n c.in-Ok.is in
+    record {
+      measured = row_measured room c.record_in-recorded.ensures c.in-Ok.n c.in-Ok.is;
+      room = omega (arith, length-take c.in-Ok.n c.record_in-recorded.new.«record», short, c.requires);
+    }
 
-pub returns-in-Refused : goal.returns-in-Refused
-returns-in-Refused c =
-    wrote_same
-    (receipt_refused c.requires.line_room
-    (large_recorded c.record_with-recording.ensures (search rules) (search rules) (search rules) refl) c.in-Refused.r
-    c.args.number (ap reply_in c.in-Refused.is))
+pub returns-in-Err : goal.returns-in-Err
+returns-in-Err c =
+    let r = c.args.room.now in
+    let room : LineRoom c.args.line.now (memory r.b r.a r.«record») =
+    full_room (search rules) (search rules) (search rules) in
+    wrote_same (receipt_refused room c.record_in-recorded.ensures c.in-Err.r c.args.number c.in-Err.is)
     c.put_refusal.ensures
 
-pub returns-in-Unfit : goal.returns-in-Unfit
-returns-in-Unfit c =
-    wrote_same
-    (receipt_refused c.requires.line_room
-    (large_recorded c.record_with-recording.ensures (search rules) (search rules) (search rules) refl) BadFrame
-    c.args.number (ap reply_in c.in-Unfit.is))
-    c.put_refusal-in-Unfit.ensures
-
-pub returns-in-Bytes : goal.returns-in-Bytes
-returns-in-Bytes c =
-    wrote_same
-    (receipt_row c.requires.line_room
-    (large_recorded c.record_with-recording.ensures (search rules) (search rules) (search rules) refl) c.in-Bytes.n
-    (ap reply_in c.in-Bytes.is) c.args.number)
+pub returns-in-Ok : goal.returns-in-Ok
+returns-in-Ok c =
+    let r = c.args.room.now in
+    let room : LineRoom c.args.line.now (memory r.b r.a r.«record») =
+    full_room (search rules) (search rules) (search rules) in
+    wrote_same (receipt_row room c.record_in-recorded.ensures c.in-Ok.n c.in-Ok.is c.args.number)
     c.put_tables.ensures

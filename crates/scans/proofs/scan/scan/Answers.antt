@@ -11,10 +11,7 @@ overflow_cast-p c = omega (arith, c.loop-p.invariant.to_come, c.requires.pair_of
 
 pub scan_block-p-requires : goal.scan_block-p-requires
 scan_block-p-requires c =
-    record {
-      labels = c.read_labels.ensures;
-      block_ahead = ahead c.requires.pair_of_tables c.loop-p.invariant (omega arith);
-    }
+    ahead c.requires.pair_of_tables c.loop-p.invariant (omega arith)
 
 pub loop-p-smaller : goal.loop-p-smaller
 loop-p-smaller c = omega (arith, c.scan_block-p.ensures.on, c.loop-p.invariant.to_come)

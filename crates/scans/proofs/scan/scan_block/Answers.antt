@@ -6,22 +6,16 @@ use Rattle.scans.proofs.scan.scan_block.Goals as goal
 
 pub zero_columns-requires : goal.zero_columns-requires
 zero_columns-requires c =
-    record {
-      labels = c.requires.labels;
-      passing = zeros_passing c.requires.block_ahead _ _ c.known_zeros.ensures c.known_zeros-zeros.ensures (omega arith);
-    }
+    zeros_passing c.requires _ _ c.known_zeros.ensures c.known_zeros-zeros.ensures (omega arith)
 
 pub returns-then-zeros-gt0 : goal.returns-then-zeros-gt0
 returns-then-zeros-gt0 c =
-    zeros_scanned c.requires.block_ahead _ _ c.known_zeros.ensures c.known_zeros-zeros.ensures (omega arith) _ refl
+    zeros_scanned c.requires _ _ c.known_zeros.ensures c.known_zeros-zeros.ensures (omega arith) _ refl
     c.zero_columns.ensures
 
 pub plain_columns-requires : goal.plain_columns-requires
 plain_columns-requires c =
-    record {
-      labels = c.requires.labels;
-      scanning = plain_scanning c.requires.block_ahead _ c.block_end-stop.ensures;
-    }
+    plain_scanning c.requires _ c.block_end-stop.ensures
 
 pub returns : goal.returns
-returns c = plain_scanned c.requires.block_ahead _ c.block_end-stop.ensures _ refl c.plain_columns.ensures
+returns c = plain_scanned c.requires _ c.block_end-stop.ensures _ refl c.plain_columns.ensures

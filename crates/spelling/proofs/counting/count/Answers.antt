@@ -25,9 +25,6 @@ count_falling-last-requires c =
       a_bound = omega (arith, last.most);
     }
 
-pub overflow_cast-a : goal.overflow_cast-a
-overflow_cast-a c = omega (arith, c.type_inv.a 0)
-
 pub overflow_add-result : goal.overflow_add-result
 overflow_add-result c =
     let states =
@@ -36,11 +33,11 @@ overflow_add-result c =
     let last =
     sized_last states (λ i. omega (arith, c.type_inv.b i))
     (λ i. omega (arith, c.type_inv.a i)) in
-    omega (arith, c.apart.ensures, c.type_inv.a 0, last.most, last.near)
+    omega (arith, c.abs_diff.ensures, c.from.ensures, c.type_inv.a 0, last.most, last.near)
 
 pub returns : goal.returns
 returns c =
     let states =
     passed c.args.b.now c.args.a.now c.new.ensures c.count_rising-top.ensures
     c.count_falling-last.ensures in
-    omega (arith, c.apart.ensures, passed_count states)
+    omega (arith, c.abs_diff.ensures, c.from.ensures, passed_count states)

@@ -1,13 +1,8 @@
--- `count_falling` meets its contract: before each turn the runs from x_k down are left. Assumes nothing.
-use Prim.Native.Nat.{◌≤◌}
-use Rattle.group.specs.Limits.{limit}
+-- Before each turn the runs from x_k down are left. Assumes nothing.
 use Rattle.spelling.specs.Runs.{falling}
 use Rattle.spelling.specs.inside.Steps.{read_exponent, falling_runs}
 use Rattle.spelling.proofs.Rest.{Leads}
 use Rattle.spelling.proofs.counting.count_falling.Given as goal
 
 abbrev pub invariant-loop-k : goal.invariant-loop-k
-invariant-loop-k l = (l.k ≤ limit) × Leads (falling (read_exponent l.a) l.k) l.state (falling_runs l.a) l.initial.state
-
-abbrev pub decreases-loop-k : goal.decreases-loop-k
-decreases-loop-k l = l.k
+invariant-loop-k l = Leads (falling (read_exponent l.a) l.k) l.state (falling_runs l.a) l.initial.state

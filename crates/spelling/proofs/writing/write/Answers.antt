@@ -24,9 +24,6 @@ write_falling-last-requires c =
       a_in_bounds = omega (arith, passed_last states, c.requires.a_in_bounds, c.write_rising-top.auto);
     }
 
-pub overflow_cast-a : goal.overflow_cast-a
-overflow_cast-a c = omega (arith, c.type_inv.a 0)
-
 pub put_turn-requires : goal.put_turn-requires
 put_turn-requires c =
     let states =
@@ -38,4 +35,4 @@ pub returns : goal.returns
 returns c =
     spelt_wrote (read_exponent c.args.b.now 0) (read_exponent c.args.a.now 0) c.new.ensures.0
     c.new.ensures.1 (runs_then c.write_rising-top.ensures c.write_falling-last.ensures)
-    c.put_turn.ensures
+    (rw c.from.ensures at c.put_turn.ensures)

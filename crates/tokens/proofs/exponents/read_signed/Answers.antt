@@ -1,24 +1,17 @@
--- `read_signed` meets its contract. Assumes nothing.
-use mathlib.Core.Path.{sym, ◌∙◌}
-use native.Mathlib.Omega.{arith}
-use Rattle.tokens.specs.Tokens.{minus_sign}
-use Rattle.tokens.proofs.TokenEnds.{sign_behind}
-use Rattle.tokens.proofs.TokenParts.{signed_minus, signed_plain}
+use Rattle.tokens.proofs.TokenParts.{minus_found, minus_none, plain_found, plain_none}
 use Rattle.tokens.proofs.exponents.read_signed.Goals as goal
 
-pub read_last-found-requires : goal.read_last-found-requires
-read_last-found-requires c =
-    let args = c.args in
-    sign_behind args.text.now args.at minus_sign (omega arith) (sym c.byte_at.ensures ∙ c.if-byte_at-eq45.true)
+pub returns-in_err-found : goal.returns-in_err-found
+returns-in_err-found c =
+    rw c.from_residual.ensures (minus_none c.args.text.now c.args.at c.if-stands.ensures c.in_err-found.ensures)
 
-pub returns-then-byte_at-eq45 : goal.returns-then-byte_at-eq45
-returns-then-byte_at-eq45 c =
-    let args = c.args in
-    signed_minus args.text.now args.at (sym c.byte_at.ensures ∙ c.if-byte_at-eq45.true)
-    c.read_last-found.ensures
+pub returns-then-stands : goal.returns-then-stands
+returns-then-stands c = minus_found c.args.text.now c.args.at c.if-stands.ensures c.in_ok-found.ensures
+
+pub returns-in_err-found-2 : goal.returns-in_err-found-2
+returns-in_err-found-2 c =
+    rw c.from_residual-in_err-found-2.ensures
+    (plain_none c.args.text.now c.args.at c.if-stands.ensures c.in_err-found-2.ensures)
 
 pub returns : goal.returns
-returns c =
-    let args = c.args in
-    signed_plain args.text.now args.at (λ e. c.if-byte_at-eq45.false (c.byte_at.ensures ∙ e))
-    c.read_last-found-2.ensures
+returns c = plain_found c.args.text.now c.args.at c.in_ok-found-2.ensures

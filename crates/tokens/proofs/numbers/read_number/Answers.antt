@@ -1,20 +1,35 @@
--- `read_number` meets its contract: each test by its law in DigitRuns. Assumes nothing.
-use native.Mathlib.Omega.{arith}
-use Rattle.tokens.proofs.DigitRuns.{digits_within, number_none, number_zero, number_found}
+use Rattle.std.proofs.Common.{sym, ◌∙◌, arith}
+use Rattle.std.proofs.lemmas.Bool.Decides.{nat_tests}
+use Rattle.tokens.proofs.DigitRuns.{number_large, number_none, number_zero, number_found}
+use Rattle.tokens.proofs.numbers.read_number.Goals.{then-found-at-via-then-found-at, then-found-at-2, else-found-at-2}
+use Rattle.tokens.proofs.numbers.read_number.Goals.{then-found-at-via-else-found-at+then-text-at-eq48}
 use Rattle.tokens.proofs.numbers.read_number.Goals as goal
 
-pub returns-then-end-at : goal.returns-then-end-at
-returns-then-end-at c = number_none c.requires c.read_digits-found.ensures c.if-end-at.true
+pub returns-in_err-found : goal.returns-in_err-found
+returns-in_err-found c = rw c.from_residual.ensures (number_large c.in_err-found.ensures)
 
-pub bounds-text-at : goal.bounds-text-at
-bounds-text-at c = digits_within c.requires c.read_digits-found.ensures c.if-end-at.false
+pub returns-then-found-at : goal.returns-then-found-at
+returns-then-found-at c =
+    let d = c.in_ok-found.ensures in
+    elim c.then-found-at.branch [
+      | then-found-at-via-then-found-at w ↦ number_none c.requires d.0 d.1 w.if-found-at.true
+      | then-found-at-via-else-found-at+then-text-at-eq48 w ↦
+          elim w.if-found-at-2.branch [
+            | then-found-at-2 v ↦
+                let zero = sym v.value-is ∙ w.if-text-at-eq48.true in
+                number_zero c.requires d.0 d.1 (grind (arith, nat_tests)) v.if-found-at-2.true
+            | else-found-at-2 v ↦
+                let more = sym v.value-is ∙ w.if-text-at-eq48.true in
+                absurd (grind (arith, nat_tests, v.if-found-at-2.false))
+          ]
+    ]
 
-pub returns-then-at-end : goal.returns-then-at-end
-returns-then-at-end c = number_zero c.requires c.read_digits-found.ensures c.if-text-at-eq48.true c.if-at-end.true
-
-pub returns-else-at-end : goal.returns-else-at-end
-returns-else-at-end c = number_found c.requires c.read_digits-found.ensures c.if-end-at.false (λ e lt. omega arith)
-
-pub returns-else-text-at-eq48 : goal.returns-else-text-at-eq48
-returns-else-text-at-eq48 c =
-    number_found c.requires c.read_digits-found.ensures c.if-end-at.false (λ e lt. c.if-text-at-eq48.false e)
+pub returns : goal.returns
+returns c =
+    let d = c.in_ok-found.ensures in
+    number_found c.requires d.0 d.1 c.if-found-at.false
+    (λ zero more.
+    elim c.if-found-at-2.branch [
+      | then-found-at-2 v ↦ let other = sym v.value-is ∙ c.if-text-at-eq48.false in grind (arith, nat_tests)
+      | else-found-at-2 v ↦ omega (arith, v.if-found-at-2.false)
+    ])

@@ -11,13 +11,13 @@ use Rattle.trees.proofs.writer.write_subtree.Goals as goal
 pub loop-pending-init : goal.loop-pending-init
 loop-pending-init c = pending_start c.requires
 
-pub put_leaf-p-requires : goal.put_leaf-p-requires
-put_leaf-p-requires c =
+pub put_leaf-requires : goal.put_leaf-requires
+put_leaf-requires c =
     leaf_room c.loop-pending.invariant c.requires _ c.loop-pending-test.true
     c.leaf_exponent-n.ensures
 
-pub overflow_add-k : goal.overflow_add-k
-overflow_add-k c =
+pub overflow_add-place : goal.overflow_add-place
+overflow_add-place c =
     let inv = c.loop-pending.invariant in
     omega (arith, inv.early, inv.writing.ends, c.requires.small)
 
@@ -39,7 +39,7 @@ loop-pending-smaller c =
     let inv = c.loop-pending.invariant in
     omega (
       arith,
-      c.put_leaf-p.ensures.ends,
+      c.put_leaf.ensures.ends,
       own_length c.leaf_exponent-n.result,
       leaf_room inv c.requires _ c.loop-pending-test.true c.leaf_exponent-n.ensures,
       writing_length inv.writing,
@@ -48,7 +48,7 @@ loop-pending-smaller c =
 pub loop-pending-preserved : goal.loop-pending-preserved
 loop-pending-preserved c =
     pending_more c.loop-pending.invariant c.requires _ c.loop-pending-test.true
-    c.leaf_exponent-n.ensures c.put_leaf-p.ensures
+    c.leaf_exponent-n.ensures c.put_leaf.ensures
 
 pub shape_of-shape : goal.shape_of-shape
 shape_of-shape c = writing_length c.loop-pending.invariant.writing
@@ -59,7 +59,7 @@ returns c =
     let e = c.args.e.now in
     record {
       writing =
-          writing_same (ap (λ (o : ℕ). nodes_from (drop c.loop-pending.k e) o) none) c.loop-pending.invariant.writing;
+          writing_same (ap (λ (o : ℕ). nodes_from (drop c.loop-pending.place.leaf.0 e) o) none) c.loop-pending.invariant.writing;
       on = c.loop-pending.invariant.past none;
       early = c.loop-pending.invariant.early;
     }

@@ -5,7 +5,8 @@ use Rattle.trees.proofs.WriteSteps.{Pending}
 use Rattle.trees.proofs.writer.write_subtree.Given as goal
 
 abbrev pub invariant-loop-pending : goal.invariant-loop-pending
-invariant-loop-pending l = Pending l.e l.initial.k l.initial.shape l.at l.shape l.k l.p l.pending
+invariant-loop-pending l =
+    Pending l.e l.initial.place.leaf.0 l.initial.shape l.initial.place.at l.shape l.place.leaf.0 l.place.at l.pending
 
 abbrev pub decreases-loop-pending : goal.decreases-loop-pending
-decreases-loop-pending l = length l.initial.shape - l.p
+decreases-loop-pending l = length l.initial.shape - l.place.at

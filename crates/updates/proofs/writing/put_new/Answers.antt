@@ -4,8 +4,8 @@ use Rattle.records.proofs.SmallerRecords.{smaller_long}
 use Rattle.updates.proofs.Putting.{new_put}
 use Rattle.updates.proofs.writing.put_new.Goals as goal
 
-pub overflow_add-end : goal.overflow_add-end
-overflow_add-end c =
+pub overflow_add-p : goal.overflow_add-p
+overflow_add-p c =
     omega (
       arith,
       c.requires.room,
@@ -17,4 +17,4 @@ overflow_add-end c =
 pub returns : goal.returns
 returns c =
     new_put c.requires c.put_four.ensures c.put_entry-n.ensures c.put_mark.ensures
-    c.charged.ensures
+    c.charge.ensures

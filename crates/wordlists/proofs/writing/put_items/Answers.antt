@@ -1,7 +1,7 @@
 -- `writing::put_items` meets its contract: a line's item in a turn. Assumes nothing.
 use native.Mathlib.Omega.{arith}
 use Rattle.lines.proofs.LineEnds.{line_end_from, line_end_within}
-use Rattle.wordlists.proofs.Putting.{putting_starts, putting_room, putting_more, putting_ends}
+use Rattle.wordlists.proofs.Putting.{putting_starts, putting_room, putting_within, putting_more, putting_ends}
 use Rattle.wordlists.proofs.writing.put_items.Goals as goal
 
 pub loop-at-init : goal.loop-at-init
@@ -19,8 +19,14 @@ slice_bounds-put_item-end c =
     )
 
 pub put_item-written-requires : goal.put_item-written-requires
-put_item-written-requires c =
-    putting_room c.loop-at.invariant c.loop-at-test.true _ c.line_end-end.ensures
+put_item-written-requires c = putting_room c.loop-at.invariant c.loop-at-test.true _ c.line_end-end.ensures
+
+pub overflow_add-written : goal.overflow_add-written
+overflow_add-written c =
+    omega (
+      arith,
+      putting_within c.loop-at.invariant c.loop-at-test.true _ c.line_end-end.ensures c.put_item-written.ensures,
+    )
 
 pub overflow_add-at : goal.overflow_add-at
 overflow_add-at c =

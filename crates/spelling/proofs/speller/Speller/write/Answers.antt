@@ -26,13 +26,14 @@ put_turn-at-requires c =
 pub put_letters-count-requires : goal.put_letters-count-requires
 put_letters-count-requires c =
     let args = c.args in
+    let turned = rw c.from-due.ensures at c.put_turn-at.ensures in
     omega (
       arith,
       ap (λ (s : Speller). s.count)
           (behind_power_lem args.self (args.k.0 - 1) args.e (omega (arith, c.if-e-eq0.false))),
       bytes_length (turn args.self.due (args.k.0 - 1)),
       turn-length args.self.due (args.k.0 - 1),
-      c.put_turn-at.ensures,
+      turned.ends,
       c.put_turn-at.auto,
       c.requires,
     )
@@ -45,5 +46,6 @@ returns c =
       | then-inverse w ↦ rw w.if-inverse.true w.letter-is
       | else-inverse w ↦ rw w.if-inverse.false w.letter-is
     ] in
-    run_wrote (args.k.0 - 1) (cond args.inverse 'B 'b) args.e (omega (arith, c.if-e-eq0.false)) byte
-    c.put_turn-at.ensures c.put_letters-count.ensures
+    rw c.from-due.ensures
+    (run_wrote (args.k.0 - 1) (cond args.inverse 'B 'b) args.e (omega (arith, c.if-e-eq0.false)) byte
+    (rw c.from-due.ensures at c.put_turn-at.ensures) (rw c.from.ensures at c.put_letters-count.ensures))

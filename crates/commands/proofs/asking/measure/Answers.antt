@@ -1,0 +1,13 @@
+-- `measure` meets its contract: the number, or the refusal. Assumes nothing.
+use mathlib.Core.Path.{refl, ap}
+use Rattle.numerals.specs.Decimals.{decimal}
+use Rattle.refusals.specs.Outcomes.{reply_of}
+use Rattle.lengths.specs.Weights.{form_length}
+use Rattle.commands.proofs.Replying.{reply_line}
+use Rattle.commands.proofs.Fronts.{measure_said}
+use Rattle.commands.proofs.asking.measure.Goals as goal
+
+pub returns : goal.returns
+returns c =
+    reply_line decimal _ (measure_said form_length c.record_to_length.ensures) _ _
+    (ap reply_of c.in_ok-n.was) refl c.put_number.ensures

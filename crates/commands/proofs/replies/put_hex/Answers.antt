@@ -1,0 +1,6 @@
+-- `put_hex` meets its contract: the text, then byte 0A hex. Assumes nothing.
+use Rattle.appending.proofs.Appending.{append-then}
+use Rattle.commands.proofs.replies.put_hex.Goals as goal
+
+pub returns : goal.returns
+returns c = append-then c.append_hex-end.ensures c.append.ensures

@@ -1,5 +1,0 @@
--- The turns that are left are counted down.
-use Rattle.console.proofs.sent.take_all.Given as goal
-
-abbrev pub decreases-loop-turns : goal.decreases-loop-turns
-decreases-loop-turns g l = l.turns

@@ -1,9 +1,0 @@
--- `put_decimal` meets its contract: the digits that are found are those of the number. Assumes nothing.
-use Rattle.numerals.proofs.Decimals.{digits_found}
-use Rattle.printing.proofs.Fitting.{put_same}
-use Rattle.printing.proofs.put_decimal.Goals as goal
-
-pub returns : goal.returns
-returns c =
-    let made = c.decimal-k.ensures in
-    put_same (digits_found c.args.n c.decimal-k.result made.len made.digits) c.put.ensures

@@ -1,6 +1,0 @@
--- `table` is safe. Assumes nothing.
-use Rattle.std.proofs.Common.{◌-◌}
-use Rattle.test_calls.proofs.printed.table.Given as goal
-
-abbrev pub decreases-loop-i : goal.decreases-loop-i
-decreases-loop-i l = 4200 - l.i

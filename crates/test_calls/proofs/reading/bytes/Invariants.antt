@@ -1,5 +1,0 @@
--- `bytes` is safe. Assumes nothing.
-use Rattle.test_calls.proofs.reading.bytes.Given as goal
-
-abbrev pub decreases-loop-left : goal.decreases-loop-left
-decreases-loop-left l = l.left

@@ -1,6 +1,0 @@
--- `run` is safe. Assumes nothing.
-use Rattle.std.proofs.Common.{length, ◌-◌}
-use Rattle.test_calls.proofs.run.Given as goal
-
-abbrev pub decreases-loop-at : goal.decreases-loop-at
-decreases-loop-at l = length l.text - l.at

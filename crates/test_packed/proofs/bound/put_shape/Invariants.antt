@@ -1,6 +1,0 @@
--- `put_shape` is safe. Assumes nothing.
-use Rattle.std.proofs.Common.{length, ◌-◌}
-use Rattle.test_packed.proofs.bound.put_shape.Given as goal
-
-abbrev pub decreases-loop-i : goal.decreases-loop-i
-decreases-loop-i l = length l.shape - l.i

@@ -1,9 +1,0 @@
--- `larger` meets its contract. Assumes nothing.
-use native.Mathlib.Omega.{arith}
-use Rattle.trees.proofs.count.larger.Goals as goal
-
-pub returns-then-m-n : goal.returns-then-m-n
-returns-then-m-n c = omega arith
-
-pub returns-else-m-n : goal.returns-else-m-n
-returns-else-m-n c = omega arith
