@@ -41,7 +41,7 @@ fn digit(d: u8) -> u8
     if d < 10 { b'0' + d } else { b'a' + (d - 10) }
 }
 
-// Bytes in hexadecimal digits, two each.
+// Bytes in hexadecimal digits, two each. The place behind them is the answer, so it is counted beside the bytes.
 pub fn append_hex(bytes: &[u8], out: &mut [u8], at: usize) -> usize
     ensures { Appended (hex_of bytes.now) out.old at out.new result }
 {

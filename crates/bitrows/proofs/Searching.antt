@@ -57,7 +57,12 @@ sought_more {x} {j} {a} {n} {v} k s e = record {
   leaf = λ h. s.leaf (omega arith);
   before = λ h.
       let d : v - a ≡ suc (v - (a + 1)) = omega (arith, s.from) in
-      omega (arith, s.before (omega arith), ap (λ (m : ℕ). total (bits_of m (x / 2 ^ a))) d, bits_behind x a (v - (a + 1)));
+      omega (
+        arith,
+        s.before (omega arith),
+        ap (λ (m : ℕ). total (bits_of m (x / 2 ^ a))) d,
+        bits_behind x a (v - (a + 1)),
+      );
   none = λ h. omega (arith, s.none (omega arith), bits_behind x a n);
 }
 
@@ -75,7 +80,8 @@ sought_here x a n z = record {
 sought_on : (x a n : ℕ) → ((k : ℕ) → Sought x k (a + 1) n (get_or (leaves_of x (a + 1) n) k (a + 1 + n))) → (b : Bool)
     → is_leaf x a ≡ b → (k : ℕ)
     → Sought x k a (suc n) (get_or (cond b (a ∷ leaves_of x (a + 1) n) (leaves_of x (a + 1) n)) k (a + 1 + n))
-sought_on x a n on false e k = let z : x / 2 ^ a % 2 ≡ 1 = grind (arith, nat_tests) in sought_more k (on k) (omega (arith, z))
+sought_on x a n on false e k = let z : x / 2 ^ a % 2
+    ≡ 1 = grind (arith, nat_tests) in sought_more k (on k) (omega (arith, z))
 sought_on x a n on true e zero = sought_here x a n (grind (arith, nat_tests))
 sought_on x a n on true e (suc k) =
     let z : x / 2 ^ a % 2 ≡ 0 = grind (arith, nat_tests) in sought_more (suc k) (on k) (omega (arith, z))

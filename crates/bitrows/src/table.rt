@@ -1,7 +1,6 @@
 // The table of bytes: how many carets eight nodes have, and how far they fall.
 
-// For each byte, 16 times its carets and the most that its first nodes close more than they open. A walk copies it to
-// a local: a constant that is indexed in a loop would be copied there at each turn.
+// For each byte, 16 times its carets and the most that its first nodes close more than they open.
 pub const BYTES: [u8; 256] = [
     8, 22, 22, 36, 22, 36, 36, 50, 22, 36, 36, 50, 36, 50, 50, 64, 22, 36, 36, 50, 36, 50, 50, 64,
     36, 50, 50, 64, 50, 64, 65, 80, 22, 36, 36, 50, 36, 50, 50, 64, 36, 50, 50, 64, 50, 64, 65, 80,

@@ -78,7 +78,7 @@ fn walk_end(numbers: &[u64]) -> usize
     NODES * numbers.len().min(NUMBERS)
 }
 
-// From a node on, to where its subtree closes or to the end.
+// From a node on, to where its subtree closes or to the end. A `while`: a step passes a number, a byte or a node.
 pub fn walk_from(numbers: &[u64], from: NodeNumber) -> Walk
     ensures { Walked numbers.now from.0 result }
 {

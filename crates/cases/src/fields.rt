@@ -38,7 +38,7 @@ pub fn lent(line: &[u8]) -> Sizes {
 // The number in a field, at most 2^64 - 1.
 pub fn number(field: &[u8]) -> u64 {
     field.iter().fold(0u64, |value, x| {
-        value.wrapping_mul(10).wrapping_add(u64::from(x % 16))
+        (value % 1844674407370955162 * 10).wrapping_add(u64::from(x % 16))
     })
 }
 
@@ -52,7 +52,7 @@ pub fn hexadecimal(digits: &[u8]) -> u64 {
     digits.iter().fold(0u64, |value, x| {
         value
             .wrapping_mul(16)
-            .wrapping_add(u64::from(x % 16 + x / 64 * 9))
+            .wrapping_add(u64::from((x % 16 + x / 64 * 9) % 16))
     })
 }
 

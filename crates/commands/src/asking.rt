@@ -19,7 +19,8 @@ pub fn check(record: &[u8], out: &mut [u8; ANSWER]) -> Result<usize, Refusal>
     Ok(put_line(b"accepted", out))
 }
 
-// A word of the element.
+// A word of the element. This and the three below differ in the call, and each contract names its question: two lines
+// each, so no function takes the call.
 pub fn spell(record: &[u8], word: &mut [u8; ROOM], out: &mut [u8; ANSWER]) -> Result<usize, Refusal>
     ensures { Replied (record_said Word «record».now) out.old out.new result }
 {

@@ -5,16 +5,17 @@ use mathlib.Core.List.{List}
 use Prim.Native.Nat.{ℕ}
 use lib.ListN.{take}
 use native.Mathlib.Omega.{arith}
-use Rattle.std.specs.Prelude.{⊤, Result, Ok, Err, MatchResult, IsErrAnd, is_ok}
+use Rattle.std.specs.Prelude.{⊤, length, Result, Ok, Err, MatchResult, IsErrAnd, IsOk, is_ok}
 use Rattle.group.specs.Letters.{Word}
 use Rattle.group.specs.Products.{form_of}
 use Rattle.refusals.specs.declared.Refusal.{Refusal}
 use Rattle.refusals.specs.Refusals.{number_of, place_of}
-use Rattle.refusals.specs.Outcomes.{Outcome, accepted, refused, drop_value, verdict_of}
+use Rattle.refusals.specs.Outcomes.{Outcome, accepted, refused, drop_value, verdict_of, reply_of}
 use Rattle.refusals.specs.Memory.{Memory}
 use Rattle.records.specs.Reading.{frames}
 use Rattle.records.proofs.ReadBack.{frames-encode}
-use Rattle.words.specs.Recording.{judged_with, Left, beside}
+use Rattle.refusals.proofs.Outcomes.{accepted_refused}
+use Rattle.words.specs.Recording.{judged_with, count_record, encode_word, Left, Recorded, beside}
 use Rattle.words.specs.inside.Writing.{Accepts, WordWritten}
 use Rattle.words.proofs.Written.{left_kept, verdict_refused, verdict_accepts, front_record}
 use Rattle.comparisons.specs.Comparing.{refused_word, decided, decision_of, verdict_on, Compared}
@@ -39,6 +40,16 @@ pub kept_acceptance : (word : List ℕ) (m : Memory) (v : Result ⊤ Refusal) {o
 kept_acceptance word m (Ok tt) h e f = verdict_accepts word m (Ok tt) h refl
 kept_acceptance word m (Err x) {o} {y} h e f =
     absurd (true≢false (sym (ap (λ (r : Result ⊤ RefusedWord). is_ok r) f) ∙ e))
+
+-- An answer whose outcome is a number is one.
+has_answer : (q : Result ℕ Refusal) (n : ℕ) → reply_of q ≡ accepted n → IsOk q
+has_answer (Ok k) n e = refl
+has_answer (Err r) n e = absurd (accepted_refused (sym e))
+
+-- A word that is accepted has a record.
+pub recorded_ok : {word : List ℕ} {m m' : Memory} (q : Result ℕ Refusal) → Accepts word m → Recorded word m m' q
+    → IsOk q
+recorded_ok q a w = has_answer q (length (encode_word a.letters)) (w.result ∙ ap count_record a.judged_so)
 
 -- The first word is refused, whatever the second is.
 pub first_refused : (word1 : List ℕ) (m1 : Memory) (word2 : List ℕ) (m2 : Memory) (v : Result ⊤ Refusal)

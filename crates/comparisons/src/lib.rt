@@ -40,7 +40,7 @@ fn verdict(record1: &[u8], record2: &[u8]) -> Comparison
 }
 
 // Two words: same, inverse or different by their records. Both are judged before anything is written, the first word
-// first; the second finds the scratch as the first left it.
+// first; the second finds the scratch as the first left it. The eight parameters are named in docs/MANUAL.md.
 pub fn same_element(
     word1: &[u8],
     b_table1: &mut [u16],

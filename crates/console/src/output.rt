@@ -13,7 +13,8 @@ const MOST_HELD: usize = OUTPUT - ANSWER;
 #[derive(Clone, Copy, Debug, PartialEq, Eq)]
 pub struct Failed;
 
-// The answers that are not written yet, and whether something was refused so far. No Vec: memory is fixed.
+// The answers that are not written yet, and whether something was refused so far (a flag: it stands whatever the rest
+// is). No Vec: memory is fixed.
 #[derive(Drop)]
 pub struct Output {
     held: [u8; OUTPUT],

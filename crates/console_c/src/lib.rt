@@ -7,28 +7,12 @@ ghost use Rattle.std.specs.Io.{WritesAtMost};
 use std::env::{Env, FillError};
 use std::io::Stdin;
 
-// The arguments of a command line, the program's name among them: how many there are, and the bytes of those from 1 to
-// 4. The command looks at no other.
+// The arguments of a command line: how many there are, and the bytes of argument 0, which is left out, to 4. The
+// command looks at no other.
 #[derive(Drop)]
 struct Arguments<'a> {
     count: usize,
-    first: &'a [u8],
-    second: &'a [u8],
-    third: &'a [u8],
-    fourth: &'a [u8],
-}
-
-impl Arguments<'_> {
-    // The bytes of argument i, none where it is not one of the four.
-    fn bytes(&self, i: usize) -> &[u8] {
-        match i {
-            1 => self.first,
-            2 => self.second,
-            3 => self.third,
-            4 => self.fourth,
-            _ => &[],
-        }
-    }
+    texts: [&'a [u8]; 5],
 }
 
 // Puts bytes at the front of a buffer, where they fit.
@@ -45,10 +29,13 @@ fn put(bytes: &[u8], out: &mut [u8]) -> Result<usize, FillError>
 
 impl Env for Arguments<'_> {
     fn arg(&self, i: usize, buf: &mut [u8]) -> Result<usize, FillError> {
-        if i < self.count {
-            return put(self.bytes(i), buf);
+        if i >= self.count {
+            return Err(FillError::NotPresent);
         }
-        Err(FillError::NotPresent)
+        match self.texts.get(i) {
+            Some(text) => put(text, buf),
+            None => Ok(0),
+        }
     }
 
     fn var(&self, _name: &str, _buf: &mut [u8]) -> Result<usize, FillError> {
@@ -73,10 +60,7 @@ pub extern "C" fn thompsonf_status(
     let mut input = input;
     let arguments = Arguments {
         count,
-        first,
-        second,
-        third,
-        fourth,
+        texts: [&[], first, second, third, fourth],
     };
     console::thompsonf_status(&mut input, &arguments)
 }

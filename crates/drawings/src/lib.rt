@@ -52,7 +52,7 @@ fn finish(end: usize, answer: &mut [u8; ANSWER]) -> Result<usize, Answer>
     Ok(end)
 }
 
-// The picture of a record's pair.
+// The picture of a record's pair: characters or SVG, a flag as README and `DrawnAs` have it.
 pub fn draw(
     characters: bool,
     record: &[u8],

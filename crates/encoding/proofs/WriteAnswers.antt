@@ -22,7 +22,8 @@ encoded_accepted (Ok k) n h = ap Ok (accepted_same h)
 encoded_accepted (Err (Refused r)) n h = absurd (accepted_refused (sym h))
 encoded_accepted (Err Unfit) n h = absurd (accepted_refused (sym h))
 
-refuses : {b a s : List ℕ} {number place : ℕ} {r : Result ℕ Failure} → encode_tables b a (length s) ≡ refused number place
+refuses : {b a s : List ℕ} {number place : ℕ} {r : Result ℕ Failure}
+    → encode_tables b a (length s) ≡ refused number place
     → encoding_of r ≡ refused number place → Encoded b a s s r
 refuses e h = record { result = rw e h; bytes = rw e refl }
 

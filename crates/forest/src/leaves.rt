@@ -21,7 +21,7 @@ pub struct Levels {
 
 // What is left of a bush below its stem: cells that each have the cell before them on the left and a tip of exponent
 // 0 on the right. With no bush behind them these tips are not stored. No turn of the loop waits for a load before it.
-// Kept a `while`: a range down to `last` would end there also for a bush below it.
+// Kept a `while`: a range down to `last` would need the code and the place below it, and a second end for low bushes.
 fn below_stem(last: u16, lefts: &[u16], rights: &[u16], bush: u16, height: usize) -> u16
     requires { (bush < length lefts.now) × (bush < length rights.now) }
     ensures { StemPassed last lefts.now rights.now bush height result }
@@ -40,7 +40,8 @@ fn below_stem(last: u16, lefts: &[u16], rights: &[u16], bush: u16, height: usize
     code
 }
 
-// The first tip of a bush; the bushes behind it go onto the stack.
+// The first tip of a bush; the bushes behind it go onto the stack. Kept a `while`: it goes from cell to cell, and how
+// many it passes is not known before.
 pub fn descend(
     last: u16,
     lefts: &[u16],
@@ -79,6 +80,7 @@ pub fn zero_rest(table: &mut [u16], low: usize, high: usize)
 
 // The tips of the bushes on the stack, from the left, up to `end` of them: the left edges above tip i and its exponent
 // are entry i of the tables. Where the stack is empty, only tips of exponent 0 are left.
+// The slices go apart, for the reason in cells.rt.
 pub fn read_off(
     last: u16,
     lefts: &[u16],

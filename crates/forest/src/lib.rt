@@ -1,7 +1,7 @@
 // The forest engine: the reduced form of a word, one letter in constant time, and of a product of powers.
 #![tactic(auto)]
 
-ghost use Rattle.std.specs.Prelude.{◌≡◌};
+ghost use Rattle.std.specs.Prelude.{◌≡◌, replicate};
 ghost use Rattle.forest.specs.inside.Filling.{last_tip_value, fits_for, FilledTables};
 ghost use Rattle.forest.specs.inside.FillingPowers.{FilledPowers};
 
@@ -36,7 +36,10 @@ pub struct Scratch {
 
 impl Scratch {
     // Cleared; any content would do.
-    pub fn new() -> Scratch {
+    pub fn new() -> Scratch
+        ensures cells { (result.lefts ≡ replicate CELLS 0) × (result.rights ≡ replicate CELLS 0) }
+        ensures stack { result.stack ≡ replicate ROOM 0 }
+    {
         Scratch {
             lefts: [0; CELLS],
             rights: [0; CELLS],

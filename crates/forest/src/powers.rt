@@ -10,7 +10,8 @@ use crate::cells::{LAST_TIP, join, part, pop, push};
 use crate::leaves::zero_rest;
 use refusals::LIMIT;
 
-// The cursor moved on to place `end`, no further than the bushes of `stack` reach. The height of `stack` that is left.
+// The cursor moved on to place `end`, no further than the bushes of `stack` reach. The height of `stack` that is left:
+// it is the answer too, so it is counted beside the place.
 fn move_on(before: &mut [u16], stack: &[u16], front: usize, height: usize, end: usize) -> usize
     requires { (front ≤ end) × (end ≤ front + height) × (end ≤ length before.old)
         × (height ≤ length stack.now) }
@@ -53,7 +54,7 @@ fn skip_zeros(before: &[u16], front: usize, height: usize, k: usize) -> usize
     k
 }
 
-// The cursor moved back to place k, each bush stored. The height of `stack` that is reached.
+// The cursor moved back to place k, each bush stored. The height of `stack` that is reached: it is the answer too.
 fn move_back(before: &[u16], stack: &mut [u16], front: usize, height: usize, k: usize) -> usize
     requires { (k ≤ front) × (front ≤ length before.now) × (front + height < length stack.old)
         × Storing before.now front height k }
@@ -100,7 +101,7 @@ pub struct Hand {
 }
 
 // One turn, k the cursor's place. Where the side is 0, x_k: a fork over the bush, with the next bush of the row as its
-// right part. Else x_k⁻¹: the bush parted, and its left part taken.
+// right part. Else x_k⁻¹: the bush parted, and its left part taken. The side is a number, as `fill_powers` promises.
 fn turn(side: u8, lefts: &mut [u16], rights: &mut [u16], stack: &mut [u16], hand: Hand) -> Hand
     requires { TurnReady lefts.old rights.old stack.old hand }
     ensures { Turned (side_of side) lefts.old rights.old stack.old hand
@@ -131,7 +132,7 @@ pub struct Behind {
     pub height: usize,
 }
 
-// x_k^e where the side is 0, else x_k^−e; k is the cursor's place.
+// x_k^e where the side is 0, else x_k^−e; k is the cursor's place. The slices go apart, for the reason in cells.rt.
 fn power(
     side: u8,
     lefts: &mut [u16],
@@ -162,7 +163,7 @@ fn power(
 }
 
 // The row of the powers that three slices of one length hold, from the last to the first; all its bushes go onto the
-// stack. The height of the stack.
+// stack. The height of the stack. The slices are those of `fill_powers`, whose contract (`FilledPowers`) names them.
 pub fn pile_powers(
     indices: &[u16],
     exponents: &[u16],

@@ -1,6 +1,8 @@
 -- A line that comes in parts is read as the whole line is, its bytes cut to the size of the buffer; and what is read
 -- are bytes. Assumes nothing.
-use Rattle.std.proofs.Common.{◌≡◌, ℕ, zero, suc, ◌+◌, ◌*◌, ◌%◌, ◌^◌, ◌<◌, Option, Some, None, Bool, true, false, cond, ltb, List, [], ◌∷◌, ◌++◌, length, get_or, take, sym, refl, ap, ◌∙◌, subst, ap₂, append-nil, arith, ltb-true, lt-ltb}
+use Rattle.std.proofs.Common.{◌≡◌, ℕ, zero, suc, ◌+◌, ◌*◌, ◌%◌, ◌^◌, ◌<◌, Option, Some, None, Bool, true, false, cond}
+use Rattle.std.proofs.Common.{ltb, List, [], ◌∷◌, ◌++◌, length, get_or, take, sym, refl, ap, ◌∙◌, subst, ap₂}
+use Rattle.std.proofs.Common.{append-nil, arith, ltb-true, lt-ltb}
 use lib.Seq.{append_snoc}
 use Rattle.lines.specs.Lines.{whole_of}
 use Rattle.lines.specs.Feeding.{kept_line, kept_count}

@@ -58,7 +58,7 @@ fn keep(bytes: &mut [u8], held: usize, x: u8) -> usize
     held
 }
 
-// One digit more.
+// One digit more. Whatever number waits in `high`, the byte is one: it is taken below 16.
 fn take_digit(v: u8, bytes: &mut [u8], m: Amid) -> Amid
     requires { v < 16 }
     ensures { taken bytes.new result ≡ with_digit bytes.old m v }

@@ -127,7 +127,8 @@ module _ {minus plus : List ℕ} {n j sum : ℕ} {m-next m-later p-next p-later 
       }
 
   -- The tests by their values.
-  pub sum_next : {m-next' m-later' p-next' p-later' : Bool} → m-next' ≡ leb 2 x → m-later' ≡ Tests.◌||◌ (leb 2 x) m-later
+  pub sum_next : {m-next' m-later' p-next' p-later' : Bool} → m-next' ≡ leb 2 x
+      → m-later' ≡ Tests.◌||◌ (leb 2 x) m-later
       → p-next' ≡ leb 2 y → p-later' ≡ Tests.◌||◌ (leb 2 y) p-later
       → Summed minus plus n i (sum + w) m-next' m-later' p-next' p-later'
   sum_next e1 e2 e3 e4 = rw (e1, e2, e3, e4) sum_more

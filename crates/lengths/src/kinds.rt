@@ -4,8 +4,8 @@ ghost use Rattle.lengths.specs.Kinds.{kind_of};
 ghost use Rattle.lengths.specs.Labels.{label_of};
 ghost use Rattle.lengths.specs.inside.Steps.{kind_named, label_named, class_of};
 
-// The classes of carets: on the left side, on the right side, interior with a leaf as right child, interior with a caret
-// as right child. They stay bytes: they are written over the bytes of the shape that is read (no other memory is there).
+// The classes of carets: on the left side, on the right side, interior with a leaf as right child, interior with a
+// caret as right child. They stay bytes: they are written over those of the shape that is read (fixed memory).
 pub const LEFT: u8 = 0;
 
 pub const RIGHT: u8 = 1;
@@ -49,7 +49,7 @@ pub fn kind(class: u8, next: bool, later: bool) -> CaretKind
     }
 }
 
-// The label of a caret behind caret 0, by its kind.
+// The label of a caret behind caret 0, by its kind. No `From`: `kind`, which takes three values, stands beside it.
 pub fn label(kind: CaretKind) -> CaretLabel
     ensures { label_named result ≡ label_of (kind_named kind) }
 {

@@ -25,7 +25,8 @@ pub struct Place {
 }
 
 // One node of an interior subtree: a caret opens a subtree more, a leaf closes one and the next caret is interior. Its
-// class is INSIDE_LEAF and the first byte of its right subtree, which makes INSIDE_CARET where that is 1.
+// class is INSIDE_LEAF and the first byte of its right subtree, which makes INSIDE_CARET where that is 1. The place is
+// in two parts here: the answer has the caret alone, and the loop moves the node on.
 fn read_node(shape: &mut [u8], at: usize, caret: CaretNumber, pending: usize) -> Amid
     requires { NodeReady shape.old at caret.0 pending }
     ensures { NodeRead shape.old at caret.0 pending shape.new result }
@@ -54,6 +55,7 @@ fn read_subtree(shape: &mut [u8], from: Place) -> Place
 {
     let mut place = from;
     let mut pending = 1;
+    // No `for`: how many nodes the subtree has is known once none is pending.
     while pending > 0 {
         let inside = read_node(shape, place.at, place.caret, pending);
         pending = inside.pending;

@@ -5,7 +5,7 @@ ghost use Rattle.lines.specs.inside.Counting.{count_feeds_value, count_unended_v
 
 use crate::LINE_FEED;
 
-// How many bytes are line feeds.
+// How many bytes are line feeds. Counted in the loop: `filter` and `count` took longer in two of three runs.
 pub fn count_feeds(bytes: &[u8]) -> usize
     ensures { result ≡ count_feeds_value bytes.now }
 {

@@ -70,7 +70,8 @@ abbrev read_beside : Outcome Form → List ℕ → Outcome (List ℕ)
 read_beside o text = then o (λ f. text_beside (form_powers f) text)
 
 -- A refusal of the reader is passed on, and nothing was written.
-pub text_refused : {n : ℕ} {s z b a text : List ℕ} {v : Result ⊤ Refusal} {q : Refusal} → Cleared n z → Decoded s z z b a v
+pub text_refused : {n : ℕ} {s z b a text : List ℕ} {v : Result ⊤ Refusal} {q : Refusal} → Cleared n z
+    → Decoded s z z b a v
     → v ≡ Err q → TextWritten s text text (Err q)
 text_refused {s = s} {text = text} {q = q} c d e = record {
   are_bytes = d.are_bytes;
@@ -91,7 +92,8 @@ module _ {n : ℕ} {s z b a : List ℕ} {f : Form} (c : Cleared n z) (r : Read s
       (omega (arith, few, ap length r.a_holds, table-length f r.within c a_side, c.room))
       (λ i. ap (λ (t : List ℕ). get_or t i 0) r.a_holds ∙ table_at f r.within c a_side i))
 
-module _ {n : ℕ} {s z b a : List ℕ} {v : Result ⊤ Refusal} (c : Cleared n z) (d : Decoded s z z b a v) (e : v ≡ (Ok tt)) where
+module _ {n : ℕ} {s z b a : List ℕ} {v : Result ⊤ Refusal} (c : Cleared n z) (d : Decoded s z z b a v)
+    (e : v ≡ (Ok tt)) where
   -- Twelve bytes for each power are enough.
   pub text_room_lem : length (further_text (powers_of b a)) ≤ text_room
   text_room_lem =
@@ -105,7 +107,8 @@ module _ {n : ℕ} {s z b a : List ℕ} {v : Result ⊤ Refusal} (c : Cleared n 
       )
 
   -- What was placed is the text of the form.
-  pub text_answer : {text text' : List ℕ} {r : Result ℕ Refusal} → Placed (text_beside (powers_of b a) text) text text' r
+  pub text_answer : {text text' : List ℕ} {r : Result ℕ Refusal}
+      → Placed (text_beside (powers_of b a) text) text text' r
       → TextWritten s text text' r
   text_answer {text} {text'} {r} p =
       let f = read_accepted c d e in

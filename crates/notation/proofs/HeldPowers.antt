@@ -109,7 +109,8 @@ module _ {ks es ss : List ℕ} (h : Kept ks es ss) where
     engine_fits t = tables_numbered (length b) (length a) (powers_in ks es ss) (engine_found t)
 
     -- What it leaves, on each answer that is one of the call's too.
-    engine_leaves : {b' a' : List ℕ} (f : Result ℕ Failure) (v : Result ℕ Refusal) → drop_value (reply_of v) ≡ filling_of f
+    engine_leaves : {b' a' : List ℕ} (f : Result ℕ Failure) (v : Result ℕ Refusal)
+        → drop_value (reply_of v) ≡ filling_of f
         → ((n : ℕ) → v ≡ Ok n → f ≡ Ok n) → FilledPowers ks es ss b a lefts rights before stack b' a' f
         → FilledBy (powers_in ks es ss) b a b' a' v
     engine_leaves f v same number t = record {

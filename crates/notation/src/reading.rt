@@ -32,6 +32,7 @@ impl Powers<'_> {
         match filled {
             Ok(levels) => Ok(levels),
             Err(Failure::Refused(r)) => Err(r),
+            // Proved here, from what is lent here: so this match is no function of its callers.
             Err(Failure::Unfit) => unreachable!(),
         }
     }

@@ -39,7 +39,8 @@ asked numbers summary node =
 
 -- The numbers and the summary of the shape stand at the front of what was lent, and the numbers used are counted in the
 -- answer; everything behind them is unchanged, and on a refusal everything is.
-pub record Repacked (o : Outcome (List ℕ)) (numbers summary numbers' summary' : List ℕ) (r : Result ℕ Refusal) : Type 0 where
+pub record Repacked (o : Outcome (List ℕ)) (numbers summary numbers' summary' : List ℕ)
+    (r : Result ℕ Refusal) : Type 0 where
   pub result : reply_of r ≡ valued (λ s. numbers_of_value (length s)) o
   pub numbers_left : numbers' ≡ after o numbers (λ s. filled (numbers_of_value (length s)) (number_at s) numbers)
   pub summary_left : summary' ≡ after o summary (λ s. filled (numbers_of_value (length s)) (summary_at s) summary)

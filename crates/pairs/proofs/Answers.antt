@@ -34,7 +34,8 @@ pub data Passed : Result ℕ Failure → Result ℕ Refusal → Type 0 where
   number : (n : ℕ) → Passed (Ok n) (Ok n)
   refusing : (q : Refusal) → Passed (Err (Refused q)) (Err q)
 
-pairing_passed : {x : Result ℕ Failure} {r : Result ℕ Refusal} → Passed x r → (o : Outcome ℕ) → pairing_of x ≡ o → reply_of r ≡ o
+pairing_passed : {x : Result ℕ Failure} {r : Result ℕ Refusal} → Passed x r → (o : Outcome ℕ) → pairing_of x ≡ o
+    → reply_of r ≡ o
 pairing_passed (number n) o h = h
 pairing_passed (refusing q) o h = h
 
@@ -63,7 +64,8 @@ module _ {s z b a : List ℕ} {f : Form} (c : Cleared (suc limit) z) (r : Read s
   length_fits e = accepted_refused (sym (e ∙ tables_length))
 
   -- The shapes of the tables are those of the pair.
-  module _ {m p m' p' : List ℕ} {x : Result ℕ Failure} {y : Result ℕ Refusal} (w : WrotePair b a m p m' p' x) (on : Passed x y) where
+  module _ {m p m' p' : List ℕ} {x : Result ℕ Failure} {y : Result ℕ Refusal} (w : WrotePair b a m p m' p' x)
+      (on : Passed x y) where
     -- Where a buffer is too short, nothing was written.
     pair_short : pair_carets b a (length m) (length p) ≡ refused 7 0
         → paired_in s (length m) (length p) ≡ refused 7 0 → Paired s m p m' p' y
@@ -99,7 +101,8 @@ module _ {s z b a : List ℕ} {f : Form} (c : Cleared (suc limit) z) (r : Read s
 
   -- The pair writer finds no table unfit.
   pub pair_fits : {m p m' p' : List ℕ} → WrotePair b a m p m' p' (Err Unfit) → ⊥
-  pair_fits {m} {p} w = go (ltb (length m) (shape_size (carets_of f))) (ltb (length p) (shape_size (carets_of f))) refl refl
+  pair_fits {m} {p} w = go (ltb (length m) (shape_size (carets_of f)))
+      (ltb (length p) (shape_size (carets_of f))) refl refl
     where
       go : (k l : Bool) → ltb (length m) (shape_size (carets_of f)) ≡ k
           → ltb (length p) (shape_size (carets_of f)) ≡ l → ⊥
@@ -114,8 +117,10 @@ module _ {s z b a : List ℕ} {f : Form} (c : Cleared (suc limit) z) (r : Read s
           accepted_refused (sym (w.result ∙ fit))
 
 -- The tables of a record that is accepted give its tree pair and its length.
-module _ {s z b a : List ℕ} {v : Result ⊤ Refusal} (c : Cleared (suc limit) z) (d : Decoded s z z b a v) (e : v ≡ (Ok tt)) where
-  pub pair_answer : {m p m' p' : List ℕ} {x : Result ℕ Failure} {r : Result ℕ Refusal} → WrotePair b a m p m' p' x → Passed x r
+module _ {s z b a : List ℕ} {v : Result ⊤ Refusal} (c : Cleared (suc limit) z) (d : Decoded s z z b a v)
+    (e : v ≡ (Ok tt)) where
+  pub pair_answer : {m p m' p' : List ℕ} {x : Result ℕ Failure} {r : Result ℕ Refusal} → WrotePair b a m p m' p' x
+      → Passed x r
       → Paired s m p m' p' r
   pair_answer w on = pair_read c (read_accepted c d e).1 w on
 

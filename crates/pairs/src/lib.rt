@@ -24,6 +24,7 @@ pub fn record_to_tree_pair(
     match trees::write_pair(&b, &a, t_minus, t_plus) {
         Ok(n) => Ok(n),
         Err(Failure::Refused(r)) => Err(r),
+        // Proved here, from what is lent here: so this match is no function of its callers.
         Err(Failure::Unfit) => unreachable!(),
     }
 }

@@ -111,7 +111,8 @@ module _ {bytes : List ℕ} {tab one two end : List CaretSpan} {at first right l
               ∙ ap (drop (2 * carets l + 1)) below
               ∙ drop_at (shape l) (shape r ++ rest) (2 * carets l + 1) (shape-length l)
 
-          finish : (last ≡ right + (2 * carets r + 1)) × (two ≡ sets one (mid + 1) (table_rows (spans_from (mid + 1) r)))
+          finish : (last ≡ right + (2 * carets r + 1))
+              × (two ≡ sets one (mid + 1) (table_rows (spans_from (mid + 1) r)))
               → (last ≡ at + (2 * (carets l + suc (carets r)) + 1))
               × (end ≡ sets tab first (table_rows (spans_from first (caret l r))))
           finish (stops, later) =
@@ -127,7 +128,8 @@ module _ {bytes : List ℕ} {tab one two end : List CaretSpan} {at first right l
               ∙ ap₂ (λ (k : ℕ) (s : List CaretSpan). sets s k (own ∷ rows)) place_of wrote
               ∙ sets-two front tab first (own ∷ rows) in
               let same : front ++ (own ∷ rows) ≡ table_rows (spans_from first (caret l r)) =
-              ap (λ (k : ℕ). front ++ (own ∷ table_rows (spans_from k r))) from ∙ sym (rows_append (spans_from first l) _) in
+              ap (λ (k : ℕ). front ++ (own ∷ table_rows (spans_from k r))) from
+              ∙ sym (rows_append (spans_from first l) _) in
               (omega (arith, ends, stops), joined ∙ ap (sets tab first) same)
 
   pub read_caret : SpansRead bytes at first tab end last

@@ -17,7 +17,8 @@ use Rattle.lengths.specs.Kinds.{Kind, later_kinds, either}
 use Rattle.lengths.specs.Kinds.{next_inside, some_inside_value}
 use Rattle.pictures.specs.declared.spans.CaretSpan.{CaretSpan}
 use Rattle.pictures.specs.Spans.{Span, span, width}
-use Rattle.pictures.specs.inside.Tables.{row_of_span, table_rows, span_in, span_at, spans_at, class_by, classes_by, classes_at}
+use Rattle.pictures.specs.inside.Tables.{row_of_span, table_rows, span_in, span_at, spans_at, class_by, classes_by}
+use Rattle.pictures.specs.inside.Tables.{classes_at}
 use Rattle.pictures.specs.inside.Tables.{kinds_at, table_kind, table_kinds}
 
 -- The first of the spans from k on.
@@ -78,7 +79,8 @@ spans_read tab k (s ∷ ss) rest o e =
     (spans_read tab (suc k) ss rest o.1 later)
 
 -- The first of the kinds from k on.
-pub kinds_next : (tab : List CaretSpan) (n k : ℕ) → k < n → table_kinds tab n k ≡ table_kind tab n k ∷ table_kinds tab n (k + 1)
+pub kinds_next : (tab : List CaretSpan) (n k : ℕ) → k < n
+    → table_kinds tab n k ≡ table_kind tab n k ∷ table_kinds tab n (k + 1)
 kinds_next tab n k h =
     ap (kinds_at k) (classes_next tab n k h)
     ∙ ap (λ (ks : List Kind). table_kind tab n k ∷ ks) (sym (kinds-later k (classes_at tab n (k + 1))))

@@ -12,7 +12,8 @@ use Rattle.pictures.specs.declared.spans.CaretSpan.{CaretSpan}
 use Rattle.pictures.specs.Spans.{Span, spans, drawn}
 use Rattle.pictures.specs.Svg.{spans_svg, tree_svg}
 use Rattle.pictures.specs.Characters.{spans_characters, tree_characters}
-use Rattle.pictures.specs.inside.Tables.{table_rows, spans_at, table_spans, table_kinds, classes_by, kinds_at, SpansRead, SpansOf, table_svg}
+use Rattle.pictures.specs.inside.Tables.{table_rows, spans_at, table_spans, table_kinds, classes_by, kinds_at}
+use Rattle.pictures.specs.inside.Tables.{SpansRead, SpansOf, table_svg}
 use Rattle.pictures.specs.inside.Tables.{table_characters}
 use Rattle.pictures.proofs.Tables.{spans_read}
 use Rattle.pictures.proofs.SpanClasses.{spans-length, spans_ordered, span-kinds}
@@ -32,7 +33,8 @@ table-spans {bytes} {entry} {exit} {r} {n} t read room e count few =
     ∙ spans_read exit 0 (spans t) (drop (0 + length rows) entry) (spans_ordered 0 t) front
 
 -- They give the text of the tree.
-module _ {bytes : List ℕ} {n : ℕ} {tab : List CaretSpan} {m : ℕ} (o : SpansOf bytes n tab m) (t : Tree) (e : bytes ≡ shape t)
+module _ {bytes : List ℕ} {n : ℕ} {tab : List CaretSpan} {m : ℕ} (o : SpansOf bytes n tab m) (t : Tree)
+    (e : bytes ≡ shape t)
     (count : carets t ≡ n) where
   same : m ≡ carets t
   same = o.same ∙ sym count

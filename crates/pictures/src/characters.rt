@@ -59,8 +59,9 @@ impl Spans {
 
     // The rows from the top, and the numbers of the leaves below them.
     fn put_rows(&self, out: &mut [u8], at: usize) -> usize
-        ensures { Appended (rows_of (table_spans self.now.table self.now.carets) self.now.carets self.now.carets) out.old at
-            out.new result }
+        ensures { Appended
+            (rows_of (table_spans self.now.table self.now.carets) self.now.carets self.now.carets)
+            out.old at out.new result }
     {
         let mut end = at;
         for h in (0..self.carets).rev() {

@@ -26,7 +26,7 @@ fn name(kind: CaretKind) -> [u8; 2]
 }
 
 impl Spans {
-    // The class of caret k.
+    // The class of caret k, a byte as `lengths` has it.
     fn class(&self, k: usize) -> u8
         requires { k < drawn }
         ensures { result ≡ class_byte (class_by self.now.carets k (span_at self.now.table k)) }

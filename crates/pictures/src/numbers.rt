@@ -4,7 +4,7 @@ ghost use Rattle.appending.specs.inside.Appending.{Appended};
 ghost use Rattle.pictures.specs.Spans.{drawn};
 ghost use Rattle.pictures.specs.Characters.{digit_of, digit_cell, digit_row, tens_rows, number_rows};
 
-// The digit of k at a place: 1, 10 or 100.
+// The digit of k at a place, 1, 10 or 100, or a blank: numbers stand in columns, which no form of the library writes.
 fn digit(k: usize, place: usize) -> u8
     requires { 0 < place }
     ensures { result ≡ digit_of place k }

@@ -28,7 +28,7 @@ fn behind(j: usize, x: u8) -> usize
     if x == b'~' { j + 1 } else { j }
 }
 
-// A text with numbers: each `~` stands for the next of the numbers.
+// A text with numbers: each `~` stands for the next of the numbers. Their index is kept by hand, as `filled` has it.
 pub fn fill(text: &[u8], numbers: &[usize], out: &mut [u8], at: usize) -> usize
     ensures { Appended (filled text.now numbers.now) out.old at
         out.new result }

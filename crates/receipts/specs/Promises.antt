@@ -34,7 +34,8 @@ abbrev pub served_in : (part : List ℕ) (number held : ℕ) (line out : List �
 served_in part number held line out = fitting (part_size (length part)) (served part number line held) out
 
 -- The receipts stand at the front of the buffer; everything beyond is unchanged.
-pub record ServedPart (part : List ℕ) (number held : ℕ) (line out line' out' : List ℕ) (r : Result Served Refusal) : Type 0 where
+pub record ServedPart (part : List ℕ) (number held : ℕ) (line out line' out' : List ℕ)
+    (r : Result Served Refusal) : Type 0 where
   pub result : serving_of r ≡ then (served_in part number held line out) (λ m. accepted (answer_of m))
   pub leaves_line : line' ≡ after (served_in part number held line out) line (λ m. m.line)
   pub leaves_out : out' ≡ after (served_in part number held line out) out (λ m. sets out 0 m.receipts)

@@ -7,12 +7,13 @@ use receipts::{LINE, OUTPUT, PART};
 use refusals::Refusal;
 use std::io::Read;
 
-// The numbers of standard output and standard error.
+// The numbers of standard output and standard error, as the kit's writer takes them.
 const STDOUT: i32 = 1;
 
 const STDERR: i32 = 2;
 
-// Behind a part: whether a word was refused, and what is kept of the line that has begun.
+// Behind a part: whether a word was refused (a flag: it stands whatever the rest is), and what is kept of the line that
+// has begun.
 #[derive(Clone, Copy)]
 struct Turn {
     refused: bool,

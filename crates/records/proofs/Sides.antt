@@ -131,7 +131,8 @@ placed_field tag body out n h long most room =
     }
 
 -- It is answered with its bytes counted.
-placed_count : (tag : ℕ) (body out : List ℕ) {out' : List ℕ} {r : Result ℕ Refusal} → Placed (field_in tag body out) out out' r
+placed_count : (tag : ℕ) (body out : List ℕ) {out' : List ℕ} {r : Result ℕ Refusal}
+    → Placed (field_in tag body out) out out' r
     → length body ≤ most_body → head_size + length body ≤ length out
     → reply_of r ≡ accepted (length (field tag body))
 placed_count tag body out h most room =
@@ -182,7 +183,8 @@ module _ (s out : List ℕ) (b a : ℕ) (e : FramedBy s b a) (bytes : Bytes s) (
 
       pub second_placed : IsOk q
       second_placed =
-          answered _ _ (placed_count a_tag (b_body s) (part_from n mid) two (omega (arith, long_b s b a e, most_b s b a e bytes))
+          answered _ _ (placed_count a_tag (b_body s) (part_from n mid) two
+          (omega (arith, long_b s b a e, most_b s b a e bytes))
           fits_b)
 
       pub exchange_put : take n mid ++ (y ++ drop (length mid - n) (drop n mid)) ≡ sets out 0 (exchanged s)

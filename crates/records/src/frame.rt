@@ -2,9 +2,11 @@
 ghost use Rattle.std.specs.Prelude.{◌≡◌, false, MatchOption};
 ghost use Rattle.fields.specs.Fields.{Bytes as AreBytes};
 ghost use Rattle.records.specs.Exchange.{b_body, a_body};
-ghost use Rattle.records.specs.Reading.{frames};
+ghost use Rattle.records.specs.Reading.{a_start, a_powers, b_powers, frames};
 ghost use Rattle.records.specs.inside.Steps.{FramedBy};
+ghost use Rattle.records.specs.inside.Walking.{left_at, Inside};
 
+use crate::walk::Place;
 use crate::{A_TAG, B_TAG, BASE_SIZE};
 use fields::HEAD_SIZE;
 
@@ -50,5 +52,29 @@ impl<'a> Frame<'a> {
         ensures { result.now ≡ a_body self.entry.bytes.now }
     {
         &self.bytes[BASE_SIZE + self.b_length..]
+    }
+
+    // Where the entries of the b side stand.
+    pub fn b_place(self) -> Place
+        ensures at { result.at ≡ 3 }
+        ensures inside { Inside self.entry.bytes.now result }
+        ensures powers { left_at self.entry.bytes.now result ≡ b_powers self.entry.bytes.now }
+    {
+        Place {
+            at: HEAD_SIZE,
+            left: self.b_length / 4,
+        }
+    }
+
+    // Where those of the a side stand.
+    pub fn a_place(self) -> Place
+        ensures at { result.at ≡ a_start self.entry.bytes.now }
+        ensures inside { Inside self.entry.bytes.now result }
+        ensures powers { left_at self.entry.bytes.now result ≡ a_powers self.entry.bytes.now }
+    {
+        Place {
+            at: BASE_SIZE + self.b_length,
+            left: self.a_length / 4,
+        }
     }
 }

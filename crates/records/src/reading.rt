@@ -1,13 +1,13 @@
 // The entries of a record's two fields, in order.
-ghost use Rattle.std.specs.Prelude.{◌≡◌, ◌+◌, ◌*◌, ◌≤◌, ◌<◌, length, MatchResult};
+ghost use Rattle.std.specs.Prelude.{◌≡◌, ◌≤◌, ◌<◌, MatchResult};
 ghost use Rattle.group.specs.Limits.{limit};
 ghost use Rattle.refusals.specs.Outcomes.{accepted, drop_value, refusal, reply_of};
-ghost use Rattle.records.specs.Reading.{entries_at, b_powers, a_powers, is_faulty, scan as scanned};
+ghost use Rattle.records.specs.Reading.{b_powers, a_powers, is_faulty, scan as scanned};
+ghost use Rattle.records.specs.inside.Walking.{left_at, Inside};
 ghost use Rattle.records.specs.inside.Steps.{Proper, proper_prop, scan_both};
 
-use crate::BASE_SIZE;
 use crate::frame::Frame;
-use fields::HEAD_SIZE;
+use crate::walk::Place;
 use fields::integers::number_at;
 use refusals::{LIMIT, Refusal};
 
@@ -28,14 +28,15 @@ fn faulty(low: usize, sum: usize, index: usize, exponent: usize) -> bool
 }
 
 // The sum of the exponents so far and of one field's entries, in order, or 4 at the first that is wrong.
-fn scan_field(s: &[u8], start: usize, count: usize, sum: usize) -> Result<usize, Refusal>
-    requires { (start + 4 * count ≤ length s.now) × (sum ≤ limit) }
-    ensures { reply_of result ≡ scanned start 0 sum (entries_at s.now start count) }
+fn scan_field(s: &[u8], p: Place, sum: usize) -> Result<usize, Refusal>
+    requires inside { Inside s.now p }
+    requires small { sum ≤ limit }
+    ensures { reply_of result ≡ scanned p.at 0 sum (left_at s.now p) }
 {
     let mut low = 0;
     let mut total = sum;
-    for i in 0..count {
-        let at = start + 4 * i;
+    for i in 0..p.left {
+        let at = p.at + 4 * i;
         let index = number_at(s, at);
         let exponent = number_at(s, at + 2);
         if faulty(low, total, index, exponent) {
@@ -51,16 +52,12 @@ impl<'a> Frame<'a> {
     // The entries of both fields, with one sum over them.
     pub fn entries(self) -> Result<Entries<'a>, Refusal>
         ensures { MatchResult result
-            (λ e. (e.frame.bytes.now ≡ self.entry.bytes.now) × (accepted 0 ≡ drop_value (scan_both self.entry.bytes.now)))
+            (λ e. (e.frame.bytes.now ≡ self.entry.bytes.now)
+            × (accepted 0 ≡ drop_value (scan_both self.entry.bytes.now)))
             (λ r. refusal r ≡ drop_value (scan_both self.entry.bytes.now)) }
     {
-        let sum = scan_field(self.bytes, HEAD_SIZE, self.b_length / 4, 0)?;
-        scan_field(
-            self.bytes,
-            BASE_SIZE + self.b_length,
-            self.a_length / 4,
-            sum,
-        )?;
+        let sum = scan_field(self.bytes, self.b_place(), 0)?;
+        scan_field(self.bytes, self.a_place(), sum)?;
         Ok(Entries { frame: self })
     }
 }

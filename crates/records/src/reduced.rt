@@ -5,11 +5,9 @@ ghost use Rattle.refusals.specs.Outcomes.{verdict_of, drop_value};
 ghost use Rattle.records.specs.Reading.{reduced_form};
 ghost use Rattle.clause.specs.inside.Tables.{ReadInto};
 
-use crate::BASE_SIZE;
 use crate::reading::Entries;
-use crate::walk::{Place, walk};
+use crate::walk::walk;
 use clause::{HANDED, TABLE};
-use fields::HEAD_SIZE;
 use refusals::Refusal;
 
 // The most bytes of both bodies of a record that is walked: 32 entries.
@@ -25,16 +23,7 @@ impl<'a> Entries<'a> {
     fn check_few(self) -> Result<(), Refusal>
         ensures { verdict_of result ≡ drop_value (reduced_form self.entry.frame.bytes.now) }
     {
-        let f = self.frame;
-        let b = Place {
-            at: HEAD_SIZE,
-            left: f.b_length / 4,
-        };
-        let a = Place {
-            at: BASE_SIZE + f.b_length,
-            left: f.a_length / 4,
-        };
-        walk(f.bytes, b, a)
+        walk(self.frame.bytes, self.frame.b_place(), self.frame.a_place())
     }
 
     // The clause by own tables.

@@ -1,27 +1,26 @@
 // The exponents of a record whose entries are right, in two tables.
-ghost use Rattle.std.specs.Prelude.{◌≡◌, suc, ◌+◌, ◌*◌, ◌≤◌, ◌<◌, length};
+ghost use Rattle.std.specs.Prelude.{◌≡◌, suc, ◌<◌, length};
 ghost use Rattle.lists.specs.Tables.{filled};
 ghost use Rattle.group.specs.Limits.{limit};
-ghost use Rattle.records.specs.Reading.{entries_at, exponent_at};
+ghost use Rattle.records.specs.Reading.{exponent_at};
+ghost use Rattle.records.specs.inside.Walking.{left_at, Inside};
 ghost use Rattle.records.specs.inside.Steps.{Proper, FieldsFilled};
 
-use crate::BASE_SIZE;
 use crate::reading::Entries;
+use crate::walk::Place;
 use clause::HANDED;
-use fields::HEAD_SIZE;
 use fields::integers::number_at;
 
 // The exponents of a field by index, up to the limit.
-fn fill_table(s: &[u8], start: usize, count: usize, table: &mut [u16])
-    requires count_in_bounds { start + 4 * count ≤ length s.now }
+fn fill_table(s: &[u8], p: Place, table: &mut [u16])
+    requires inside { Inside s.now p }
     requires limit_in_bounds { limit < length table.old }
-    requires proper { Proper 0 (entries_at s.now start count) }
-    ensures { table.new ≡ filled (suc limit) (exponent_at (entries_at s.now start count))
-        table.old }
+    requires proper { Proper 0 (left_at s.now p) }
+    ensures { table.new ≡ filled (suc limit) (exponent_at (left_at s.now p)) table.old }
 {
     table[..HANDED].fill(0);
-    for i in 0..count {
-        let at = start + 4 * i;
+    for i in 0..p.left {
+        let at = p.at + 4 * i;
         table[number_at(s, at)] = number_at(s, at + 2) as u16;
     }
 }
@@ -34,7 +33,7 @@ impl<'a> Entries<'a> {
             b_table.new a_table.new }
     {
         let f = self.frame;
-        fill_table(f.bytes, HEAD_SIZE, f.b_length / 4, b_table);
-        fill_table(f.bytes, BASE_SIZE + f.b_length, f.a_length / 4, a_table);
+        fill_table(f.bytes, f.b_place(), b_table);
+        fill_table(f.bytes, f.a_place(), a_table);
     }
 }

@@ -9,7 +9,7 @@ ghost use Rattle.records.specs.inside.Walking.{left_at, passed_by, starts_at, br
 use fields::integers::number_at;
 use refusals::{GeneratorIndex, Refusal};
 
-// An entry of a field, by its offset, and how many entries are left from it on.
+// Where entries of a field stand: the offset of the first, and how many there are from it on.
 #[derive(Clone, Copy)]
 pub struct Place {
     pub at: usize,
@@ -48,7 +48,8 @@ fn broken(s: &[u8], p: Place, q: Place, index: usize, other: usize) -> bool
     index == other && !p.starts(s, index + 1) && !q.starts(s, index + 1)
 }
 
-// The smallest index that breaks the clause, if any, of the entries from two places on.
+// The smallest index that breaks the clause, if any, of the entries from two places on. A `while`: the one, the other
+// or both places go on at a turn.
 pub fn walk(s: &[u8], b: Place, a: Place) -> Result<(), Refusal>
     requires { Walkable s.now b a }
     ensures { verdict_of result ≡ drop_value (find_break (form_of_powers (left_at s.now b)

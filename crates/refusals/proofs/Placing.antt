@@ -55,7 +55,8 @@ module _ (size : ℕ) (text out : List ℕ) (r : Result ℕ Refusal) where
   place_long e h w = place_wrote r (fit_long size text out h) e w
 
 -- A text that was placed: the buffer is long enough for the size stated, and the text stands at its front.
-pub placed_front : {size : ℕ} {text out out' : List ℕ} {r : Result ℕ Refusal} {n : ℕ} → Placed (fitting size text out) out out' r
+pub placed_front : {size : ℕ} {text out out' : List ℕ} {r : Result ℕ Refusal} {n : ℕ}
+    → Placed (fitting size text out) out out' r
     → length text ≤ size → reply_of r ≡ accepted n → take n out' ≡ text
 placed_front {size} {text} {out} {out'} {r} {n} h le e = go (dec_lt (length out) size)
   where
@@ -69,7 +70,8 @@ placed_front {size} {text} {out} {out'} {r} {n} h le e = go (dec_lt (length out)
         ∙ sets_front text out n (sym same) (omega (arith, long, le, same))
 
 -- The same as a write, of as many bytes as the answer counts.
-pub placed_wrote : {size : ℕ} {text out out' : List ℕ} (r : Result ℕ Refusal) → Placed (fitting size text out) out out' r
+pub placed_wrote : {size : ℕ} {text out out' : List ℕ} (r : Result ℕ Refusal)
+    → Placed (fitting size text out) out out' r
     → size ≤ length out → Wrote text out 0 out' (count_in r)
 placed_wrote {size} {text} {out} {out'} r h long =
     let fits : fitting size text out ≡ accepted text = fit_long size text out long in

@@ -1,5 +1,5 @@
-// The words of the command line. The crate `console` has such steps too: kept apart, since all that the two share is a
-// call of `Env` in each, and their numbers differ.
+// The words of the command line. `console` has `count` and `text` too, and the rest with other limits: kept in each, as
+// a crate of the two functions, six lines of calls of `Env`, would be no plainer.
 use crate::text::tell;
 use std::env::{Env, FillError};
 

@@ -170,7 +170,8 @@ impl Draft<'_> {
     }
 }
 
-// Fills a buffer, or puts the bytes there are up to the end of a file or to a failure: how many.
+// Fills a buffer, or puts the bytes there are up to the end of a file or to a failure: how many. A `while`: a read may
+// give fewer bytes than there is room for.
 fn read_full(opened: &mut File, room: &mut [u8]) -> usize {
     let mut done = 0;
     while done < room.len() {

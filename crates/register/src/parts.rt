@@ -1,6 +1,6 @@
 // Parts of slices, for every count: `get` with what stands for a part that is not there.
 
-// The first n bytes, or all.
+// The first n bytes, or all: a line, which `commands` and `cases` have too, and no crate is below all three.
 pub fn front(s: &[u8], n: usize) -> &[u8] {
     s.get(..n).unwrap_or(s)
 }

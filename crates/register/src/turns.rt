@@ -24,8 +24,9 @@ pub struct Target {
     pub size: usize,
 }
 
-// Behind a part of the input: whether an entry is new, the number of the line that has begun and how many of its bytes
-// are held, and how many bytes of answers are held.
+// Behind a part of the input: whether an entry is new (a flag: it stands whatever the rest is), the number of the line
+// that has begun and how many of its bytes are held, and how many bytes of answers are held. The buffers are apart: the
+// line's goes to `lines`, the answers' to `printing`, as bytes with a place.
 #[derive(Clone, Copy)]
 pub struct Turn {
     pub fresh: bool,
@@ -71,7 +72,7 @@ fn take_line(
     }
 }
 
-// The lines of a part. A line that ends has at least a byte, so that the turns suffice.
+// The lines of a part, as many turns as bytes at most: where the next begins, each line says.
 fn take_lines(
     part: &[u8],
     line: &mut [u8; LINE],

@@ -244,7 +244,8 @@ entry_stood s at h e = go (ends (drop at s)) (entry_stands (drop at s)) refl e
     go true q a b = let z : ◌≡◌ {A = ℕ} 0 1 = cc in absurd (omega arith)
 
 -- Where the answer is no entry, none stands.
-pub no_entry : (s : List ℕ) (at : ℕ) (r : Result (Option Heading) Refusal) → r ≡ heading_at s at → ((h : Heading) → r ≡ Ok (Some h) → ⊥)
+pub no_entry : (s : List ℕ) (at : ℕ) (r : Result (Option Heading) Refusal) → r ≡ heading_at s at
+    → ((h : Heading) → r ≡ Ok (Some h) → ⊥)
     → entry_stands (drop at s) ≡ false
 no_entry s at r e other = stands_false (drop at s) (λ h. other (heading_of (drop at s) at) (e ∙ stands_entry s at h))
 

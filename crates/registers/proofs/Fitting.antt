@@ -40,7 +40,8 @@ module _ {s : List ℕ} {at : ℕ} {h : Heading} {x : ℕ} (e : EntryHead s at h
   -- The tests, by the head and the part of the buffer.
   pub fits_so : entry_fits s at low table
       ≡ both (ltb low h.number)
-      (both (accepts (stored_in bytes)) (both (ltb (count_at table h.holder) live_most) (is_new_value s bytes table low)))
+      (both (accepts (stored_in bytes))
+      (both (ltb (count_at table h.holder) live_most) (is_new_value s bytes table low)))
   fits_so = rw (number_is, holder_is, bytes_are) refl
 
 -- Four tests in a row, of which the last is made where the three before it hold.

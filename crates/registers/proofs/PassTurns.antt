@@ -61,7 +61,8 @@ module _ {s : List ℕ} {last at low : ℕ} {table : List ℕ} (p : Passing s la
     are_bytes = p.are_bytes;
     result =
         sym (passing_ends p holder (count_at table holder) small refl (over s at e)
-        ∙ ap (λ (b : Bool). cond b not_register (accepted (record { last = last; end = at; live = count_at table holder })))
+        ∙ ap (λ (b : Bool). cond b not_register
+        (accepted (record { last = last; end = at; live = count_at table holder })))
         (lt-ltb last low lt));
   }
 

@@ -19,7 +19,8 @@ pub no_first : (s : List ℕ) (holder : ℕ) → Bytes s → first_of s ≡ None
     → Summarised s holder (Err BadRegister)
 no_first s holder are e = record { are_bytes = are; result = rw (go (first_stands s) refl e) refl }
   where
-    go : (p : Bool) → first_stands s ≡ p → cond p (Some (four_at_value s head_size)) None ≡ None → first_stands s ≡ false
+    go : (p : Bool) → first_stands s ≡ p → cond p (Some (four_at_value s head_size)) None ≡ None
+        → first_stands s ≡ false
     go true is h = let z : ◌≡◌ {A = ℕ} 0 1 = cc in absurd (omega arith)
     go false is h = is
 

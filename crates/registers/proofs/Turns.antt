@@ -111,7 +111,8 @@ module _ {s : List ℕ} {last at low : ℕ} {table : List ℕ} (p : Passing s la
 
   -- The list ends here: 12 where a number is above the last given, else the overview.
   pub passing_ends : (holder alive : ℕ) → holder < table_size → alive ≡ count_at table holder → ends (drop at s) ≡ true
-      → overview_in s holder ≡ cond (ltb last low) not_register (accepted (record { last = last; end = at; live = alive }))
+      → overview_in s holder
+      ≡ cond (ltb last low) not_register (accepted (record { last = last; end = at; live = alive }))
   passing_ends holder alive small is h =
       ap (λ (o : Outcome Register). then o (λ r. accepted (overview holder r)))
       (p.whole ∙ rest_end last p.fuel (drop at s) p.before h)

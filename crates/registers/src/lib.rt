@@ -70,7 +70,8 @@ pub fn entry_at(register: &[u8], at: usize) -> Result<Option<Heading>, Refusal>
     Ok(Some(heads::heading(register, at, length)))
 }
 
-// The number of the first entry, by the entries' heads alone, whose record is these bytes.
+// The number of the first entry, by the entries' heads alone, whose record is these bytes. A `while`: an entry says
+// where the next begins.
 pub fn find(register: &[u8], record: &[u8]) -> Option<u32>
     ensures { result ≡ search_of (found register.now «record».now) }
 {

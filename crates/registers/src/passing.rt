@@ -71,7 +71,8 @@ impl Seen {
     fn add(&mut self, h: Heading, x: u32)
         requires { get_or (marked x self.old.table) h.holder 0 < 16 }
         ensures low { self.new.low ≡ h.number }
-        ensures table { self.new.table ≡ set (marked x self.old.table) h.holder (get_or (marked x self.old.table) h.holder 0 + 1) }
+        ensures table { self.new.table ≡ set (marked x self.old.table) h.holder
+            (get_or (marked x self.old.table) h.holder 0 + 1) }
     {
         self.mark(prints::low_place(x));
         self.mark(prints::high_place(x));
@@ -87,7 +88,7 @@ fn is_record(bytes: &[u8]) -> bool
     matches!(records::is_smaller(bytes), Ok(true))
 }
 
-// The pass, where the first field stands, with the last number given.
+// The pass, where the first field stands, with the last number given. A `while`: an entry says where the next begins.
 pub fn pass(s: &[u8], last: u32, holder: u16) -> Result<Overview, Refusal>
     requires { FirstStands s.now last }
     ensures { Summarised s.now holder result }

@@ -21,7 +21,7 @@ fn put_refusal(number: u64, r: Refusal, out: &mut [u8]) -> usize
     text::put_number(r.place() as u64, b'\n', out, behind_number)
 }
 
-// Four numbers, a space behind each.
+// Four numbers, a space behind each; apart, as `record_row` has them.
 fn put_numbers(k: u64, l: u64, m: u64, n: u64, out: &mut [u8]) -> usize
     requires { numbers_size ≤ length out.old }
     ensures { Wrote (four_numbers k l m n) out.old 0 out.new result }

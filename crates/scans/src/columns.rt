@@ -8,7 +8,8 @@ use crate::sides::Side;
 use crate::table::Tally;
 use refusals::LeafNumber;
 
-// The exponent of a leaf: that of the generator with its number; those behind the table's end are 0.
+// The exponent of a leaf: that of the generator with its number; those behind the table's end are 0. In 16 bits, where
+// `trees` has a size of carets.
 pub fn exponent(e: &[u16], leaf: LeafNumber) -> u16
     ensures { result ≡ get_or e.now leaf.0 0 }
 {
@@ -82,6 +83,7 @@ impl State {
     {
         let mut s = self;
         let mut left = count;
+        // No `for`: each turn finds how many columns it passes.
         while left > 0 {
             let c = s.plus.run(s.minus.run(left));
             s = s.stretch(labels, c);

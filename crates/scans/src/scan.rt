@@ -77,6 +77,7 @@ pub fn scan(b: &[u16], a: &[u16], n: usize) -> usize
             tally: Tally { sum: 0, pending: 0 },
         },
     };
+    // No `for`: each block says where the next begins.
     while p.leaf.0 as usize <= n {
         p = scan_block(&labels, b, a, n, p);
     }

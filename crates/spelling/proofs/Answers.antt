@@ -63,7 +63,8 @@ module _ {n : ℕ} {s z b a : List ℕ} {f : Form} (c : Cleared n z) (r : Read s
       ∙ ap length table-spelling
 
 -- The tables of a record that is accepted, and the number k of letters of their word.
-module _ {n : ℕ} {s z b a word : List ℕ} {v : Result ⊤ Refusal} (c : Cleared n z) (d : Decoded s z z b a v) (e : v ≡ (Ok tt))
+module _ {n : ℕ} {s z b a word : List ℕ} {v : Result ⊤ Refusal} (c : Cleared n z) (d : Decoded s z z b a v)
+    (e : v ≡ (Ok tt))
     (k : ℕ) (counted : k ≡ table_letters b a) where
   -- 8 where the word has more letters than the limit.
   pub word_long : limit < k → Spelled s word word (Err LongSpelling)

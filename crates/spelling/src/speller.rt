@@ -66,7 +66,8 @@ impl Speller {
         }
     }
 
-    // The same, with its letters written behind those so far: e times `b`, or `B` for the inverse.
+    // The same, with its letters written behind those so far: e times `b`, or `B` for the inverse. A flag, no letter:
+    // the contract (`put_run`) speaks of `b` and `B`, and of a letter it would have to ask that it is one of them.
     pub fn write(self, k: GeneratorIndex, e: u16, inverse: bool, word: &mut [u8]) -> Self
         requires k_nonzero { 0 < k.0 }
         requires e_in_bounds { (behind_power self (k.0 - 1) e).count ≤ length word.old }

@@ -10,7 +10,7 @@ use super::speller;
 use super::speller::Speller;
 use refusals::{GeneratorIndex, LIMIT};
 
-// The b side from index 1 on, indices rising.
+// The b side from index 1 on, indices rising. Not one loop with `counting`, for the reason given there.
 fn write_rising(b: &[u16], start: Speller, word: &mut [u8]) -> Speller
     requires limit_in_bounds { limit < length b.now }
     requires b_in_bounds { (behind_runs start (rising_runs b.now)).count ≤ length word.old }

@@ -22,7 +22,8 @@ impl Value for u16 {
     }
 }
 
-// The values in a field, up to the first empty one and as many as there is room for, and how many.
+// The values in a field, up to the first empty one and as many as there is room for, and how many: the count is the
+// place of the next, too, so it is kept by hand.
 pub fn put<T: Value + Copy>(field: &[u8], out: &mut [T]) -> usize {
     let mut n = 0;
     for digits in field.split(|&x| x < b'0') {

@@ -69,7 +69,7 @@ impl Memory {
     }
 }
 
-// The live entries of a holder; a million where the register is refused.
+// The live entries of a holder; a million where the register is refused: no register has as many, so no row says so.
 pub fn live_of(register: &[u8], holder: u16) -> u64 {
     match updates::account_of(register, holder) {
         Ok(account) => account.live,

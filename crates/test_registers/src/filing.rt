@@ -73,7 +73,8 @@ impl Run {
         }
     }
 
-    // A word filed: whether the answer and the register are as the list says, and what it says.
+    // A word filed: whether the answer and the register are as the list says, and what it says. Of a record that was not
+    // made no byte is kept, and the list is not asked.
     pub fn file(&mut self, filing: Filing, register: &mut [u8]) -> (bool, Told) {
         let mut own = Memory::of(0, 0);
         let made = own.make_record(filing);

@@ -252,7 +252,8 @@ pub fn thompson_record_to_label_length(record: &[u8]) -> Answer
     Answer::from(pairs::record_to_label_length(record))
 }
 
-// Two words; the value is 1 where they are the same element, and 0 where they are not.
+// Two words; the value is 1 where they are the same element, 2 where they are inverse, and 0 where they are neither.
+// The parameters are those of C's header.
 pub fn thompson_same_element(
     word1: &[u8],
     b_table1: &mut [u16],

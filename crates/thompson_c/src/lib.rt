@@ -1,5 +1,5 @@
 // The calls for C and Rust as a static library: each passes on to the call of the same name of the library thompson,
-// and states its contract again.
+// and states its contract again. Parameters are those of C's header, include/thompson.h, slices as C hands them over.
 #![tactic(auto)]
 
 ghost use Rattle.refusals.specs.Outcomes.{verdict_of, reply_of};

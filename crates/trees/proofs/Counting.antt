@@ -84,7 +84,13 @@ module _ {e : List ℕ} {n : ℕ} (u : Unused e n) where
   up_to (Some i) h =
       let place : i + 1 - 1 ≡ i = omega arith in
       last_found (zeros_from (i + 1) (omega (arith, h.0, front)) h.1)
-      (λ q. omega (arith, h.2 0, get_or-take n e i 0 (omega (arith, h.0, front)), q, ap (λ (j : ℕ). get_or e j 0) place))
+      (λ q. omega (
+        arith,
+        h.2 0,
+        get_or-take n e i 0 (omega (arith, h.0, front)),
+        q,
+        ap (λ (j : ℕ). get_or e j 0) place,
+      ))
 
 -- Entries that sum to 0 need no caret; others need more than their sum, counted from the first of them.
 needed_none : (k : ℕ) (es : List ℕ) → total es ≡ 0 → needed k es ≡ 0

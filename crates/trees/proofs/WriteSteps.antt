@@ -9,7 +9,8 @@ use native.Mathlib.Nat.{zero-add, add-zero, not-suc-le-zero, le_of_suc-le-suc}
 use native.Mathlib.Numerals.{add-one}
 use native.Mathlib.Omega.{arith}
 use lib.Dec.{lit<}
-use lib.ListN.{length, replicate, take, drop, length-take, length-drop, get_or, set, length-append, length-replicate, length-set}
+use lib.ListN.{length, replicate, take, drop, length-take, length-drop, get_or, set, length-append, length-replicate}
+use lib.ListN.{length-set}
 use lib.ListN.{drop_of_length-le}
 use borrow.Rule.Slice.PartMut.{put_mid}
 use Rattle.std.proofs.lemmas.Slice.{put_mid-paste}

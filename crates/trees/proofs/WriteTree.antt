@@ -5,7 +5,8 @@ use mathlib.Core.List.{List, [], ◌∷◌, ◌++◌, append-nil}
 use Prim.Native.Nat.{ℕ, zero, suc, ◌<◌, ◌≤◌}
 use native.Mathlib.Omega.{arith}
 use native.Mathlib.Decide.{dec_lt}
-use lib.ListN.{length, length-append, length-drop, take, drop, get_or, replicate, length-take, length-replicate, get_or-eq_default}
+use lib.ListN.{length, length-append, length-drop, take, drop, get_or, replicate, length-take, length-replicate}
+use lib.ListN.{get_or-eq_default}
 use lib.Seq.{get_or-take}
 use Rattle.lists.specs.inside.Entries.{SameEntries}
 use Rattle.lists.proofs.Totals.{same_replicate}

@@ -22,7 +22,7 @@ fn zeros_before(e: &[u16], end: usize) -> bool
     end >= BLOCK && known_zeros(e, end - BLOCK, BLOCK) == BLOCK
 }
 
-// The entries in front of the blocks of zeros at the table's end.
+// The entries in front of the blocks of zeros at the table's end. No chain: the place is wanted, not the blocks.
 fn whole_blocks(e: &[u16]) -> usize
     ensures { Unused e.now result }
 {
@@ -88,6 +88,7 @@ fn needed(e: &[u16]) -> usize
         sum: 0,
         carets: 0,
     };
+    // The tally says itself where it stands, so that a `for` would count beside it.
     while tally.from > 0 {
         tally = tally.add_block(e);
     }

@@ -33,7 +33,7 @@ fn put_leaf(shape: &mut [u8], at: usize, n: usize) -> usize
     at + n + 1
 }
 
-// The exponent of x_i; none stands behind the table's end.
+// The exponent of x_i; none stands behind the table's end. That of `scans` is of a leaf and 16 bits wide, as its sum.
 fn exponent(e: &[u16], i: GeneratorIndex) -> usize
     ensures { result ≡ get_or e.now i.0 0 }
 {
@@ -54,6 +54,7 @@ fn write_subtree(e: &[u16], from: Place, shape: &mut [u8]) -> Place
 {
     let mut place = from;
     let mut pending = 1;
+    // No `for`: how many leaves the subtree has is known once none is pending.
     while pending > 0 {
         let n = leaf_exponent(e, place.leaf);
         place = Place {

@@ -177,7 +177,8 @@ module _ (word : List ℕ) (m : Memory) (h : ℕ) (s : List ℕ) (two : h < 6553
           (entered_form ∙ subst (λ (q : Result Decision Refusal). DecidedAs (stored_form f.letters) h s q) e decided_so)
 
       -- An accepted word is written.
-      pub never_refused : {exit : Memory} {y : Result ℕ Refusal} → Recorded word m exit y → (x : Refusal) → y ≡ Err x → ⊥
+      pub never_refused : {exit : Memory} {y : Result ℕ Refusal} → Recorded word m exit y → (x : Refusal)
+          → y ≡ Err x → ⊥
       never_refused written x e = own_answered written f.letters f.judged_so x e
 
       -- The bytes that are counted are the word's record, and the smaller of it and its exchange is that of the form.

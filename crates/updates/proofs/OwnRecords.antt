@@ -64,7 +64,8 @@ module _ (word : List ℕ) (nb na nr : ℕ) (w : Word) (h : judged_record word n
 
   -- As many letters as the limit allows: for every word that is accepted.
   pub judged_own : judged_record word (suc limit) (suc limit) (buffer_size limit) ≡ accepted w
-  judged_own = judged_sized (suc limit) (buffer_size limit) (omega (arith, told.fit.short)) (omega (arith, told.fit.short))
+  judged_own = judged_sized (suc limit) (buffer_size limit) (omega (arith, told.fit.short))
+      (omega (arith, told.fit.short))
 
 module _ {word : List ℕ} {entry exit : Memory} {r : Result ℕ Refusal} (h : Recorded word entry exit r) where
   -- A refused word has no record.
@@ -120,7 +121,8 @@ count_inside {word} {entry} {exit} {r} h = go (judged_with word entry) refl
     go (refused n p) e = omega (arith, none_recorded h n p e)
 
 -- A decision on it is one on the word.
-pub decided_with : {word : List ℕ} {entry exit : Memory} {r q : Result ℕ Refusal} {h n m : ℕ} {s out' : List ℕ} {d : Result Decision Refusal}
+pub decided_with : {word : List ℕ} {entry exit : Memory} {r q : Result ℕ Refusal} {h n m : ℕ} {s out' : List ℕ}
+    {d : Result Decision Refusal}
     (out : List ℕ) → Recorded word entry exit r → n ≡ count_in r
     → Placed (smaller_in (take n exit.buffer) out) out out' q → m ≡ count_in q → Judged (take m out') h s d
     → DecidedWith word entry (length out) h s d
@@ -136,7 +138,8 @@ decided_with {word} {entry} {exit} {r} {q} {h} {n} {m} {s} {out'} {d} out told e
     own w so = ap (λ (i : ℕ). take i exit.buffer) e ∙ own_front told w so
 
 -- Where either step refuses, no word is accepted that has room.
-module _ {word : List ℕ} {entry exit : Memory} {r : Result ℕ Refusal} {h : ℕ} {s : List ℕ} (told : Recorded word entry exit r)
+module _ {word : List ℕ} {entry exit : Memory} {r : Result ℕ Refusal} {h : ℕ} {s : List ℕ}
+    (told : Recorded word entry exit r)
     (bytes : Bytes s) where
   pub unwritten : (x : Refusal) → r ≡ Err x → (n : ℕ) → DecidedWith word entry n h s (Err x)
   unwritten x e n = record { are_bytes = bytes; decides = λ w so room. absurd (own_answered told w so x e) }

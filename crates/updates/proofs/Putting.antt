@@ -40,7 +40,8 @@ wrote_end j e w = record { ends = sym e ∙ w.ends; holds = w.holds }
 
 -- The parts of an entry, one behind another: tag, length, number and holder, then the smaller of the record and its
 -- exchange in the part behind them.
-pub entry_put : (k h : ℕ) (bytes s v y : List ℕ) {t u : List ℕ} {a b c n : ℕ} (q : Result ℕ Refusal) → q ≡ Ok n → Fitting bytes s
+pub entry_put : (k h : ℕ) (bytes s v y : List ℕ) {t u : List ℕ} {a b c n : ℕ} (q : Result ℕ Refusal) → q ≡ Ok n
+    → Fitting bytes s
     → Wrote (two_bytes (entry_base + length bytes)) (set s 0 entry_tag) 1 t a → Wrote (four_bytes k) t a u b
     → Wrote (two_bytes h) u b v c
     → Placed (smaller_in bytes (take (length v - 9) (drop 9 v))) (take (length v - 9) (drop 9 v)) y q

@@ -31,7 +31,8 @@ module _ (s : Option ℕ) (a : Account) (last end n m : ℕ) where
       pub settled_short : m < end + entry_length n → Err RegisterFull ≡ settled s a last end n m
       settled_short h = sym (settled-roomed ∙ simp (lt-ltb m (end + entry_length n) h) (go (ltb last number_most)))
         where
-          go : (b : Bool) → ◌≡◌ {A = Result Decision Refusal} (cond b (Err RegisterFull) (Err RegisterFull)) (Err RegisterFull)
+          go : (b : Bool) → ◌≡◌ {A = Result Decision Refusal} (cond b (Err RegisterFull) (Err RegisterFull))
+              (Err RegisterFull)
           go true = refl
           go false = refl
 

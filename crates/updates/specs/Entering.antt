@@ -121,7 +121,8 @@ number_of_entered r = valued (λ x. reply_number x.reply) (entered_of r)
 -- For every word, whatever is lent with it, every holder and every buffer: the answer with the holder's account in the
 -- register at exit; tables and record buffer as word to record leaves them, and untouched on a refusal; the register.
 -- A holder's number has two bytes, and what is lent are bytes.
-pub record EnteredWord (word : List ℕ) (entry exit : Memory) (holder : ℕ) (s s' : List ℕ) (r : Result Entered Refusal) : Type 0 where
+pub record EnteredWord (word : List ℕ) (entry exit : Memory) (holder : ℕ) (s s' : List ℕ)
+    (r : Result Entered Refusal) : Type 0 where
   pub result : entered_of r ≡ answer_of holder (entered_in word entry s holder)
   pub leaves : Left (beside (judged_with word entry) (entered_in word entry s holder)) entry exit
   pub register : s' ≡ register_after (entered_in word entry s holder) s

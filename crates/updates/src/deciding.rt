@@ -16,9 +16,9 @@ const SMALL_ENTRIES: usize = SMALL + 1;
 
 const SMALL_BYTES: usize = BASE_SIZE + 4 * SMALL;
 
-const ENTRIES: usize = LIMIT + 1;
+const ALL_ENTRIES: usize = LIMIT + 1;
 
-const BYTES: usize = BASE_SIZE + 4 * LIMIT;
+const ALL_BYTES: usize = BASE_SIZE + 4 * LIMIT;
 
 // A new entry: its number, where it goes, and its holder's account before it.
 #[derive(Clone, Copy)]
@@ -83,7 +83,7 @@ fn judge(record: &[u8], holder: u16, register: &[u8]) -> Result<Decision, Refusa
 }
 
 // The same of a word, whose record is written into the tables and the buffer lent, and the one that a register stores,
-// the smaller of it and its exchange, into a second.
+// the smaller of it and its exchange, into a second. No struct of the four: the word's call takes three of them apart.
 fn judge_word(
     word: &[u8],
     holder: u16,
@@ -134,6 +134,6 @@ pub fn decide(word: &[u8], holder: u16, register: &[u8]) -> Result<Decision, Ref
     if word.len() <= SMALL {
         decide_sized::<SMALL_ENTRIES, SMALL_BYTES>(word, holder, register)
     } else {
-        decide_sized::<ENTRIES, BYTES>(word, holder, register)
+        decide_sized::<ALL_ENTRIES, ALL_BYTES>(word, holder, register)
     }
 }

@@ -19,8 +19,8 @@ fn put_refusal(r: Refusal, out: &mut [u8]) -> usize
     ensures { Wrote (field refused_tag (number_of r ∷ two_bytes (place_of r))) out.old 0
         out.new result }
 {
-    let place = r.place();
-    let body = [r.number(), (place / 256) as u8, (place % 256) as u8];
+    let [high, low] = (r.place() as u16).to_be_bytes();
+    let body = [r.number(), high, low];
     fields::put_field(REFUSED_TAG, &body, out).unwrap()
 }
 

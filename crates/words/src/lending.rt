@@ -25,7 +25,7 @@ pub fn is_short(record: usize, letters: usize) -> bool
     record < BASE_SIZE || (record - BASE_SIZE) / 4 < letters
 }
 
-// Word to record with scratch that is lent and long enough.
+// Word to record with scratch that is lent and long enough, in slices as `record_with` takes them.
 pub fn record_fitting(
     word: &[u8],
     b_table: &mut [u16],
@@ -43,6 +43,7 @@ pub fn record_fitting(
     match record_with(word, b_table, a_table, record, lefts, rights, stack) {
         Ok(n) => Ok(n),
         Err(Failure::Refused(r)) => Err(r),
+        // Proved here, from what is lent here: so this match is no function of its callers.
         Err(Failure::Unfit) => unreachable!(),
     }
 }

@@ -54,6 +54,7 @@ pub fn record_with(
         if !forest::word_fits(word.len(), lefts.len(), rights.len(), stack.len()) {
             return Err(Failure::Unfit);
         }
+        // The buffer is too short, so the word is refused: by 7, or by what comes before it.
         judge(word, b_table.len(), a_table.len(), record.len())?;
         unreachable!()
     }

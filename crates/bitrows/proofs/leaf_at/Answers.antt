@@ -14,7 +14,8 @@ use Rattle.bitrows.proofs.Searching.{is_leaf, leaves_of, leaf_sought}
 use Rattle.bitrows.proofs.leaf_at.Goals as goal
 
 -- What `unwrap_or` gives of an element that may be missing.
-element : (o : Option ℕ) (xs : List ℕ) (k d : ℕ) → option_map (λ x. x) o ≡ slice_get xs k → get_or xs k d ≡ unwrap_or o d
+element : (o : Option ℕ) (xs : List ℕ) (k d : ℕ) → option_map (λ x. x) o ≡ slice_get xs k
+    → get_or xs k d ≡ unwrap_or o d
 element None xs k d e = sym (ap (λ o. unwrap_or o d) e ∙ unwrap_or-slice_get xs k d)
 element (Some x) xs k d e = sym (ap (λ o. unwrap_or o d) e ∙ unwrap_or-slice_get xs k d)
 

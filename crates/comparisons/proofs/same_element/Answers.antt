@@ -4,7 +4,7 @@ use lib.Seq.{length-take-le}
 use Rattle.words.proofs.Lent.{recorded_written}
 use Rattle.words.proofs.Written.{record_inside}
 use Rattle.comparisons.specs.declared.RefusedWord.TheVariants.{First, Second}
-use Rattle.comparisons.proofs.Compared.{named_refusal, kept_acceptance, first_refused, second_refused}
+use Rattle.comparisons.proofs.Compared.{named_refusal, kept_acceptance, recorded_ok, first_refused, second_refused}
 use Rattle.comparisons.proofs.Compared.{framed, both_written}
 use Rattle.comparisons.proofs.same_element.Goals as goal
 
@@ -18,6 +18,17 @@ returns-in_err-map_err-2 c =
     second_refused _ _ _ _ _
     (kept_acceptance _ _ _ c.judge.ensures c.map_err.ensures.variant c.in_ok-map_err.was) c.judge-2.ensures
     (named_refusal Second c.judge-2.result c.map_err-2.ensures.cases _ c.in_err-map_err-2.was) (search rules)
+
+pub unwrap-first-requires : goal.unwrap-first-requires
+unwrap-first-requires c =
+    recorded_ok c.record_in.result (kept_acceptance _ _ _ c.judge.ensures c.map_err.ensures.variant c.in_ok-map_err.was)
+    c.record_in.ensures
+
+pub unwrap-second-requires : goal.unwrap-second-requires
+unwrap-second-requires c =
+    recorded_ok c.record_in-2.result
+    (kept_acceptance _ _ _ c.judge-2.ensures c.map_err-2.ensures.variant c.in_ok-map_err-2.was)
+    c.record_in-2.ensures
 
 pub slice_bounds-verdict-end : goal.slice_bounds-verdict-end
 slice_bounds-verdict-end c =

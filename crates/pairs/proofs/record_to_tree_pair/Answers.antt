@@ -5,7 +5,8 @@ use Rattle.pairs.proofs.record_to_tree_pair.Goals as goal
 
 pub unreachable-requires : goal.unreachable-requires
 unreachable-requires c =
-    pair_never own_cleared c.record_to_tables.ensures c.in_ok-record_to_tables.was (rw c.in-Err-Unfit.field-0-is at c.in-Err-Unfit.ensures)
+    pair_never own_cleared c.record_to_tables.ensures c.in_ok-record_to_tables.was
+    (rw c.in-Err-Unfit.field-0-is at c.in-Err-Unfit.ensures)
 
 pub returns-in-Ok : goal.returns-in-Ok
 returns-in-Ok c =
@@ -13,5 +14,6 @@ returns-in-Ok c =
 
 pub returns-in-Err-Refused : goal.returns-in-Err-Refused
 returns-in-Err-Refused c =
-    pair_answer own_cleared c.record_to_tables.ensures c.in_ok-record_to_tables.was (rw c.in-Err-Refused.field-0-is at c.in-Err-Refused.ensures)
+    pair_answer own_cleared c.record_to_tables.ensures c.in_ok-record_to_tables.was
+    (rw c.in-Err-Refused.field-0-is at c.in-Err-Refused.ensures)
     (refusing _)

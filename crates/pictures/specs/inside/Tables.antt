@@ -6,7 +6,8 @@
 --     table_svg, table_characters               the texts of a tree, by a table
 --     SpansRead           the spans of a subtree were read into a table
 -- Inside: no claim reaches these definitions; a reader of the claims need not believe them. Assumes nothing.
-use Rattle.std.specs.Prelude.{◌≡◌, cond, List, [], ◌∷◌, ◌++◌, ℕ, zero, suc, ◌+◌, ◌-◌, ◌*◌, ◌≤◌, ◌<◌, eqb, length, slice_index_or, drop}
+use Rattle.std.specs.Prelude.{◌≡◌, cond, List, [], ◌∷◌, ◌++◌, ℕ, zero, suc, ◌+◌, ◌-◌, ◌*◌, ◌≤◌, ◌<◌, eqb, length}
+use Rattle.std.specs.Prelude.{slice_index_or, drop}
 use Rattle.std.proofs.lemmas.List.Edits.{sets}
 use Rattle.trees.specs.Trees.{Tree, carets}
 use Rattle.trees.specs.Shapes.{shape}

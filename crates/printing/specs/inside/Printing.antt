@@ -11,8 +11,8 @@ pub record Put (bytes entry : List ℕ) (at : ℕ) (exit : List ℕ) (end : ℕ)
   pub fits : at + length bytes ≤ length entry → Wrote bytes entry at exit end
   pub else_kept : length entry < at + length bytes → (exit ≡ entry) × (end ≡ at)
 
--- Where the bytes fit they were written and nothing else was, and the answer is the place behind them; else nothing was,
--- and there is no such place.
+-- Where the bytes fit they were written and nothing else was, and the answer is the place behind them; else nothing
+-- was, and there is no such place.
 pub record Placed (bytes entry : List ℕ) (at : ℕ) (exit : List ℕ) (end : Option ℕ) : Type 0 where
   pub fits : at + length bytes ≤ length entry → (end ≡ Some (at + length bytes)) × (exit ≡ sets entry at bytes)
   pub over : length entry < at + length bytes → (end ≡ None) × (exit ≡ entry)

@@ -8,7 +8,8 @@ use Rattle.fields.proofs.FieldsAt.{Found, field_opens}
 use Rattle.registers.specs.Format.{entry_tag}
 use Rattle.registers.proofs.EntryHeads.{at_end, at_mark, at_missing, at_short, at_entry, found_headed}
 use Rattle.registers.proofs.entry_at.Goals as goal
-use Rattle.registers.proofs.entry_at.Goals.{then-register-at-via-then-register-at, then-register-at-via-else-register-at+then-register-at-eq0}
+use Rattle.registers.proofs.entry_at.Goals.{then-register-at-via-then-register-at}
+use Rattle.registers.proofs.entry_at.Goals.{then-register-at-via-else-register-at+then-register-at-eq0}
 
 pub returns-then-register-at : goal.returns-then-register-at
 returns-then-register-at c =

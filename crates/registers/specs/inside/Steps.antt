@@ -2,7 +2,8 @@
 --     fingerprint s      a number of a record's bytes          is_new_value           no entry before has the record
 --     entry_fits          the tests of the entry at a place     Prepared        what the pass starts from
 -- Inside: no claim reaches these definitions; a reader of the claims need not believe them. Assumes nothing.
-use Rattle.std.specs.Prelude.{◌≡◌, Bool, true, false, cond, List, ℕ, ◌+◌, ◌*◌, ◌/◌, ◌%◌, ◌≤◌, length, get_or, drop, set, fold, ltb}
+use Rattle.std.specs.Prelude.{◌≡◌, Bool, true, false, cond, List, ℕ, ◌+◌, ◌*◌, ◌/◌, ◌%◌, ◌≤◌, length, get_or, drop}
+use Rattle.std.specs.Prelude.{set, fold, ltb}
 use Rattle.std.proofs.Math.Option.{Option as Maybe, none, some}
 use Rattle.std.specs.Prelude.{Option, Some, None}
 use Rattle.refusals.specs.Outcomes.{Outcome, accepted, refused}

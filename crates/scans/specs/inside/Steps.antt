@@ -4,7 +4,8 @@
 --     Amid m u v t w         m columns are to come, and the sum comes to w
 --     Reached b a n i w s    the scan of two tables, with n carets, has reached leaf i
 -- Inside: no claim reaches these definitions; a reader of the claims need not believe them. Assumes nothing.
-use Rattle.std.specs.Prelude.{◌≡◌, Bool, true, false, ◌&&◌, List, ℕ, zero, suc, ◌+◌, ◌-◌, ◌*◌, ◌≤◌, ◌<◌, min, length, drop, get_or, slice_index_or, eqb}
+use Rattle.std.specs.Prelude.{◌≡◌, Bool, true, false, ◌&&◌, List, ℕ, zero, suc, ◌+◌, ◌-◌, ◌*◌, ◌≤◌, ◌<◌, min, length}
+use Rattle.std.specs.Prelude.{drop, get_or, slice_index_or, eqb}
 use Rattle.trees.specs.Pairs.{max_carets, carets_of_sides}
 use Rattle.lengths.specs.Kinds.{kind_of}
 use Rattle.lengths.specs.Labels.{Label, label_of}

@@ -10,5 +10,6 @@ pub returns-in_default : goal.returns-in_default
 returns-in_default c = record {
   passed = Err NotTree;
   numbers = c.from.ensures;
-  meets = answer_none c.args.numbers.now c.args.summary.now c.args.leaf (Err NotTree) (omega (arith, c.in_default.ensures)) refl;
+  meets = answer_none c.args.numbers.now c.args.summary.now c.args.leaf (Err NotTree)
+      (omega (arith, c.in_default.ensures)) refl;
 }

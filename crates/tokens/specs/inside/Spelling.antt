@@ -1,6 +1,7 @@
 -- The contracts of the functions that read the parts of a token: what stands in the text t from the place at on, and
 -- the place behind it; where the part is misspelled, none. Assumes nothing.
-use Rattle.std.specs.Prelude.{◌≡◌, Bool, true, false, List, [], ◌∷◌, ◌++◌, ℕ, ◌+◌, ◌-◌, ◌*◌, ◌≤◌, ◌<◌, eqb, length, get_or, drop, Option, Some, None}
+use Rattle.std.specs.Prelude.{◌≡◌, Bool, true, false, List, [], ◌∷◌, ◌++◌, ℕ, ◌+◌, ◌-◌, ◌*◌, ◌≤◌, ◌<◌, eqb, length}
+use Rattle.std.specs.Prelude.{get_or, drop, Option, Some, None}
 use Rattle.numerals.specs.Decimals.{decimal, Digits, value_from}
 use Rattle.numerals.specs.inside.Reading.{NoDigit}
 use Rattle.group.specs.Forms.{Side, b_side, a_side}

@@ -79,7 +79,8 @@ pub record Judged (bytes : List ℕ) (h : ℕ) (s : List ℕ) (d : Result Decisi
   pub decides : (f : Form) → bytes ≡ encode f → DecidedAs f h s d
 
 -- The decision on a word with tables and a buffer for its record, and one of n bytes for the record that is stored.
-pub record DecidedWith (word : List ℕ) (m : Memory) (n : ℕ) (h : ℕ) (s : List ℕ) (d : Result Decision Refusal) : Type 0 where
+pub record DecidedWith (word : List ℕ) (m : Memory) (n : ℕ) (h : ℕ) (s : List ℕ)
+    (d : Result Decision Refusal) : Type 0 where
   pub are_bytes : Bytes s
   pub decides : (w : Word) → judged_with word m ≡ accepted w → length (encode_word w) ≤ n
       → DecidedAs (stored_form w) h s d

@@ -22,4 +22,5 @@ loop-j-preserved c = omega (arith, c.from.ensures, c.requires.few (c.loop-j.j + 
 pub returns : goal.returns
 returns c =
     let e : c.args.n - 1 ≡ c.loop-j.j = omega arith in
-    rw e (holds_last (omega (arith, c.requires.n_nonzero)) (omega (arith, c.loop-j.invariant, c.from-k.ensures)) (omega arith))
+    rw e (holds_last (omega (arith, c.requires.n_nonzero)) (omega (arith, c.loop-j.invariant, c.from-k.ensures))
+    (omega arith))

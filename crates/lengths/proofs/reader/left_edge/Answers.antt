@@ -16,7 +16,9 @@ pub returns : goal.returns
 returns c =
     let gives : c.count.result ≡ prefix_len (λ x. eqb x 1) c.args.shape.now =
     count_from_yields_List c.take_while.result _ c.count.ensures.ran
-    (YieldsList-from_take_while _ (λ x. eqb x 1) (YieldsList-at c.take_while.ensures.source (YieldsList-from_slice c.args.shape.now cc)) c.take_while.ensures.closure c.take_while.ensures.done (λ x b q k. search (rules, tests)))
+    (YieldsList-from_take_while _ (λ x. eqb x 1)
+    (YieldsList-at c.take_while.ensures.source (YieldsList-from_slice c.args.shape.now cc))
+    c.take_while.ensures.closure c.take_while.ensures.done (λ x b q k. search (rules, tests)))
     ∙ length-prefix_len (λ x. eqb x 1) c.args.shape.now in
     let edge = edge_count c.args.shape.now 0 c.requires.exact in
     record { value = gives ∙ edge.0; upper_bound = omega (arith, gives, edge.0, edge.1) }

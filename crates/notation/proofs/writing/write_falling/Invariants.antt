@@ -7,4 +7,5 @@ use Rattle.notation.proofs.writing.write_falling.Given as goal
 
 abbrev pub invariant-loop-k : goal.invariant-loop-k
 invariant-loop-k l =
-    Writing (further_text (falling_in 0 (take l.k l.a))) l.out l.at (further_text (falling_in 0 l.a)) l.initial.out l.start
+    Writing (further_text (falling_in 0 (take l.k l.a))) l.out l.at
+    (further_text (falling_in 0 l.a)) l.initial.out l.start

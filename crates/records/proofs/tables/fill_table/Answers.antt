@@ -8,14 +8,14 @@ use Rattle.lists.specs.Tables.{values, filled}
 use Rattle.lists.proofs.Tables.{values_constant}
 use Rattle.group.specs.Limits.{limit}
 use Rattle.records.proofs.Placing.{placing_index, placing_more, placing_same, placing_done, placed_filled}
-use Rattle.records.specs.Reading.{entries_at}
+use Rattle.records.specs.inside.Walking.{left_at}
 use Rattle.records.specs.inside.Steps.{place_powers_value}
 use Rattle.records.proofs.tables.fill_table.Goals as goal
 
 pub bounds-table-number_at : goal.bounds-table-number_at
 bounds-table-number_at c =
     let inv = c.loop-i.invariant in
-    let some_left : 0 < c.args.count - c.loop-i.i = omega arith in
+    let some_left : 0 < c.args.p.left - c.loop-i.i = omega arith in
     omega (
       arith,
       placing_index inv _ c.number_at-in-loop-i.ensures.value some_left,
@@ -26,9 +26,9 @@ bounds-table-number_at c =
 pub loop-i-preserved : goal.loop-i-preserved
 loop-i-preserved c =
     let i = c.loop-i.i in
-    let some_left : 0 < c.args.count - i = omega arith in
-    let at : c.args.start + 4 * i + 4 ≡ c.args.start + 4 * (i + 1) = omega arith in
-    let left : c.args.count - i - 1 ≡ c.args.count - (i + 1) = omega arith in
+    let some_left : 0 < c.args.p.left - i = omega arith in
+    let at : c.args.p.at + 4 * i + 4 ≡ c.args.p.at + 4 * (i + 1) = omega arith in
+    let left : c.args.p.left - i - 1 ≡ c.args.p.left - (i + 1) = omega arith in
     placing_same at left
     (placing_more c.loop-i.invariant _ _ c.number_at-in-loop-i.ensures.value c.number_at.ensures.value some_left)
 
@@ -36,7 +36,7 @@ pub returns : goal.returns
 returns c =
     let args = c.args in
     let entry = args.table.now in
-    let powers = entries_at args.s.now args.start args.count in
+    let powers = left_at args.s.now args.p in
     let long : length (take (suc limit) entry) ≡ suc limit =
     length-take-le (suc limit) entry (omega (arith, c.requires.limit_in_bounds)) in
     let zeros : c.fill.new.self ≡ values (suc limit) (λ i. 0) =

@@ -4,4 +4,4 @@ use Rattle.records.proofs.Placing.{PlacingLoop}
 use Rattle.records.proofs.tables.fill_table.Given as goal
 
 abbrev pub invariant-loop-i : goal.invariant-loop-i
-invariant-loop-i l = PlacingLoop l.s l.start l.count l.initial.table l.table (l.start + 4 * l.i) (l.count - l.i)
+invariant-loop-i l = PlacingLoop l.s l.p.at l.p.left l.initial.table l.table (l.p.at + 4 * l.i) (l.p.left - l.i)

@@ -7,7 +7,8 @@ use Rattle.registers.specs.inside.Steps.{entry_fits}
 use Rattle.registers.proofs.EntryHeads.{EntryStood, entry_stood}
 use Rattle.registers.proofs.Fitting.{entry_head}
 use Rattle.registers.proofs.Turns.{passing_starts}
-use Rattle.registers.proofs.PassTurns.{passing_wrong, passing_low, passing_over, passing_unfit, passing_room, passing_next}
+use Rattle.registers.proofs.PassTurns.{passing_wrong, passing_low, passing_over, passing_unfit, passing_room}
+use Rattle.registers.proofs.PassTurns.{passing_next}
 use Rattle.registers.proofs.passing.pass.Goals as goal
 
 pub loop-h-init : goal.loop-h-init

@@ -15,6 +15,7 @@ returns c =
           rw (c.then_some.ensures, w.then_some-is, w.at_end.ensures)
           (last_read c.in_ok-found.found c.in_ok-found.ensures w.if-least-found.true)
       | else-least-found w ↦
-          let small : c.if-least-found.then_some ≡ false = grind (arith, nat_tests, w.then_some-is, w.if-least-found.false) in
+          let small : c.if-least-found.then_some
+          ≡ false = grind (arith, nat_tests, w.then_some-is, w.if-least-found.false) in
           rw (c.then_some.ensures, small) (last_small c.in_ok-found.ensures w.if-least-found.false)
     ]

@@ -59,7 +59,8 @@ returns c =
     let e = c.args.e.now in
     record {
       writing =
-          writing_same (ap (λ (o : ℕ). nodes_from (drop c.loop-pending.place.leaf.0 e) o) none) c.loop-pending.invariant.writing;
+          writing_same (ap (λ (o : ℕ). nodes_from (drop c.loop-pending.place.leaf.0 e) o) none)
+          c.loop-pending.invariant.writing;
       on = c.loop-pending.invariant.past none;
       early = c.loop-pending.invariant.early;
     }

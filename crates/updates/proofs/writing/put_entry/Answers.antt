@@ -74,5 +74,6 @@ unwrap-requires c =
       length-set c.args.out.now 0 entry_tag,
     ) in
     let v = c.put_two.new.out in
-    smaller_is_ok c.args.«record».now (take (length v - 9) (drop 9 v)) c.put_smaller.result c.put_smaller.ensures c.requires.framed
+    smaller_is_ok c.args.«record».now
+    (take (length v - 9) (drop 9 v)) c.put_smaller.result c.put_smaller.ensures c.requires.framed
     (simp (length-take, length-drop) (omega (arith, c.requires.room, kept)))

@@ -5,7 +5,8 @@ use Rattle.notation.proofs.powers.Powers.write.Goals as goal
 
 pub unwrap-requires : goal.unwrap-requires
 unwrap-requires c =
-    rw (filled_writes c.in_ok-levels.ensures c.in_ok-levels.levels refl c.args.«record».now c.requires _ c.write_record-written.ensures) refl
+    rw (filled_writes c.in_ok-levels.ensures c.in_ok-levels.levels refl c.args.«record».now c.requires _
+    c.write_record-written.ensures) refl
 
 pub returns : goal.returns
 returns c =

@@ -9,5 +9,6 @@ pub returns : goal.returns
 returns c = record {
   same = refl;
   holds = λ t e count.
-      table-spans t c.read.ensures (length-replicate {A = CaretSpan} 300 (record { first = 0; width = 0 })) e count c.requires.few;
+      table-spans t c.read.ensures
+      (length-replicate {A = CaretSpan} 300 (record { first = 0; width = 0 })) e count c.requires.few;
 }

@@ -4,4 +4,5 @@ use Rattle.pictures.proofs.Pieces.{Left}
 use Rattle.pictures.proofs.spans.Spans.put_carets.Given as goal
 
 abbrev pub invariant-loop-k : goal.invariant-loop-k
-invariant-loop-k l = Left (carets_from l.self.table l.self.carets l.k) l.out l.end (carets_from l.self.table l.self.carets 0) l.initial.out l.at
+invariant-loop-k l = Left (carets_from l.self.table l.self.carets l.k) l.out l.end
+    (carets_from l.self.table l.self.carets 0) l.initial.out l.at

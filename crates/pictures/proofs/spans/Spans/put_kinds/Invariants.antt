@@ -7,5 +7,6 @@ use Rattle.pictures.proofs.spans.Spans.put_kinds.Given as goal
 
 abbrev pub invariant-loop-k : goal.invariant-loop-k
 invariant-loop-k l =
-    Left (later_line (table_kinds l.self.table l.self.carets l.k)) l.out l.end (later_line (table_kinds l.self.table l.self.carets 1)) l.initial.out
+    Left (later_line (table_kinds l.self.table l.self.carets l.k)) l.out l.end
+    (later_line (table_kinds l.self.table l.self.carets 1)) l.initial.out
     l.initial.end

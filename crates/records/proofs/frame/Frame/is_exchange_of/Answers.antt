@@ -1,4 +1,5 @@
--- `is_exchange_of` meets its contract: one record's b side beside the other's a side, then the other two. Assumes nothing.
+-- `is_exchange_of` meets its contract: one record's b side beside the other's a side, then the other two.
+-- Assumes nothing.
 use mathlib.Core.Path.{sym, ◌∙◌}
 use mathlib.Core.Bool.{true≢false}
 use lib.Pointwise.{bytes_decides}
@@ -10,9 +11,15 @@ returns-then-eq c =
     let f = c.args.self in
     let s = f.bytes.now in
     let first = sym c.b_body.ensures ∙ (bytes_decides _ _).0 (sym c.eq.ensures ∙ c.if-eq.true) ∙ c.a_body.ensures in
-    sides_told s c.args.other.bytes.now (sides_written s f.b_length f.a_length f.framed f.are_bytes) c.eq-then-eq.result (
-      (λ h. (first, sym c.a_body-then-eq.ensures ∙ (bytes_decides _ _).0 (sym c.eq-then-eq.ensures ∙ h) ∙ c.b_body-then-eq.ensures)),
-      (λ h. c.eq-then-eq.ensures ∙ (bytes_decides _ _).1 (c.a_body-then-eq.ensures ∙ h.1 ∙ sym c.b_body-then-eq.ensures)),
+    sides_told s c.args.other.bytes.now
+    (sides_written s f.b_length f.a_length f.framed f.are_bytes) c.eq-then-eq.result (
+      (λ h. (
+        first,
+        sym c.a_body-then-eq.ensures ∙ (bytes_decides _ _).0 (sym c.eq-then-eq.ensures ∙ h)
+            ∙ c.b_body-then-eq.ensures,
+      )),
+      (λ h. c.eq-then-eq.ensures
+          ∙ (bytes_decides _ _).1 (c.a_body-then-eq.ensures ∙ h.1 ∙ sym c.b_body-then-eq.ensures)),
     )
 
 pub returns-else-eq : goal.returns-else-eq

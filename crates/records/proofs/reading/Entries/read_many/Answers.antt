@@ -6,4 +6,5 @@ use Rattle.records.proofs.reading.Entries.read_many.Goals as goal
 pub returns : goal.returns
 returns c =
     let args = c.args in
-    c.hand_over.ensures (form_read args.self.frame.bytes.now) (tables_show args.self.frame.bytes.now _ _ c.fill.ensures.b_table c.fill.ensures.a_table)
+    c.hand_over.ensures (form_read args.self.frame.bytes.now)
+    (tables_show args.self.frame.bytes.now _ _ c.fill.ensures.b_table c.fill.ensures.a_table)

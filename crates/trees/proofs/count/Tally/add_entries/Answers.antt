@@ -10,7 +10,8 @@ loop-i-preserved c =
     let loop = c.loop-i in
     let word = c.type_inv.e (loop.i - 1) in record {
       above = omega arith;
-      counted = count_more loop.invariant.counted _ _ _ _ (omega arith) refl (omega arith) refl (omega (arith, c.max-carets.ensures));
+      counted = count_more loop.invariant.counted _ _ _ _ (omega arith) refl (omega arith) refl
+          (omega (arith, c.max-carets.ensures));
     }
 
 pub returns : goal.returns
