@@ -20,7 +20,8 @@ pub struct Levels {
 }
 
 // What is left of a bush below its stem: cells that each have the cell before them on the left and a tip of exponent
-// 0 on the right. With no bush behind them these tips are not stored. No turn of the loop waits for a load before it.
+// 0 on the right. With no bush behind them these tips are not stored. No turn of the loop waits for a load before it:
+// `next` is worked out in front of the loads, or the compiler takes what is loaded for it.
 // Kept a `while`: a range down to `last` would need the code and the place below it, and a second end for low bushes.
 fn below_stem(last: u16, lefts: &[u16], rights: &[u16], bush: u16, height: usize) -> u16
     requires { (bush < length lefts.now) × (bush < length rights.now) }
@@ -31,11 +32,12 @@ fn below_stem(last: u16, lefts: &[u16], rights: &[u16], bush: u16, height: usize
         return code;
     }
     while last < code {
+        let next = code - 1;
         let k = code as usize;
-        if rights[k] != 0 || lefts[k] != code - 1 {
+        if rights[k] != 0 || lefts[k] != next {
             return code;
         }
-        code -= 1;
+        code = next;
     }
     code
 }
