@@ -38,10 +38,17 @@ pub fn carets_below(x: u64, node: NodeNumber) -> u32
 }
 
 // The node of leaf k of the nodes in the number x, where it has such a leaf.
-pub fn leaf_at(x: u64, k: usize) -> Option<usize>
+pub fn find_leaf(x: u64, k: usize) -> Option<usize>
     ensures { FoundLeaf x k (unwrap_or result 64) }
 {
     (0..NODES).filter(|&node| (x >> node) % 2 == 0).nth(k)
+}
+
+// The same; the number of nodes where it has no such leaf.
+pub fn leaf_at(x: u64, k: usize) -> usize
+    ensures { FoundLeaf x k result }
+{
+    find_leaf(x, k).unwrap_or(NODES)
 }
 
 // The number x with a caret and a leaf in front of a node: those behind it go two bits up.

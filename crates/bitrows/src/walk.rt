@@ -52,15 +52,12 @@ impl Walk {
         Walk { at: end, pending }
     }
 
-    // As much of the number x as can be passed at once.
+    // As many bytes of the number x as can be passed at once, else nodes.
     fn step(self, bytes: &Bytes, x: u64) -> Walk
         requires { Pending self }
         ensures reach { Reach x self result }
         ensures at_lt_at { self.at < result.at }
     {
-        if self.at % NODES == 0 && self.pending > NODES {
-            return self.pass_number(x);
-        }
         if self.at % BYTE == 0 {
             let w = self.pass_bytes(bytes, x);
             if self.at < w.at {
@@ -78,7 +75,7 @@ fn walk_end(numbers: &[u64]) -> usize
     NODES * numbers.len().min(NUMBERS)
 }
 
-// From a node on, to where its subtree closes or to the end. A `while`: a step passes a number, a byte or a node.
+// From a node on, to where its subtree closes or to the end. A `while`: a step passes some bytes or some nodes.
 pub fn walk_from(numbers: &[u64], from: NodeNumber) -> Walk
     ensures { Walked numbers.now from.0 result }
 {
@@ -90,6 +87,11 @@ pub fn walk_from(numbers: &[u64], from: NodeNumber) -> Walk
     };
     while w.pending > 0 && w.at < end {
         w = w.step(&bytes, numbers[w.at / NODES]);
+        // Whole numbers by a loop of their own: in a step, each took twice the instructions, and a time that hung on
+        // where its jumps came to lie.
+        while w.pending > NODES && w.at % NODES == 0 && w.at < end {
+            w = w.pass_number(numbers[w.at / NODES]);
+        }
     }
     w
 }

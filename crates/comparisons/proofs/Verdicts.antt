@@ -17,7 +17,7 @@ verdict_equal s t e =
     (ap (λ (p : Bool). verdict_by p (same_bytes s (exchanged t))) (ap (same_bytes s) (sym e) ∙ bytes_same s))
 
 -- Of framed records the test of the exchange is that of the bytes.
-exchange_framed : (s t : List ℕ) → frames s ≡ true → frames t ≡ true
+pub exchange_framed : (s t : List ℕ) → frames s ≡ true → frames t ≡ true
     → is_exchange_value s t ≡ same_bytes s (exchanged t)
 exchange_framed s t e g = (cc)
 

@@ -1,5 +1,5 @@
 -- The front of a table, copied where it fits. Assumes nothing.
-use mathlib.Core.Path.{◌≡◌, refl, ap, ◌∙◌}
+use mathlib.Core.Path.{◌≡◌, refl, sym, ap, ◌∙◌}
 use mathlib.Core.List.{List, [], ◌∷◌, ◌++◌}
 use Prim.Native.Nat.{ℕ, zero, suc, ◌<◌, ◌≤◌}
 use native.Mathlib.Omega.{arith}
@@ -23,6 +23,14 @@ copied_front {from} {entry} {front} {n} long room e = record {
   kept_from = λ short. absurd (omega arith);
   kept_table = λ short. absurd (omega arith);
 }
+
+-- The values at the first places of a list, in front of the rest of another, are its first elements.
+pub front_filled : (from entry : List ℕ) {exit : List ℕ} {i n : ℕ} → i ≡ n → n ≤ length from
+    → exit ≡ filled i (λ k. get_or from k 0) entry → exit ≡ take n from ++ drop n entry
+front_filled from entry {exit} {i} {n} whole long is =
+    is
+    ∙ ap (λ (k : ℕ). filled k (λ j. get_or from j 0) entry) whole
+    ∙ ap (λ (l : List ℕ). l ++ drop n entry) (sym (take_values n from long))
 
 -- A copy of a table that shows the values of a function is filled by them.
 pub copied_values : {from entry exit : List ℕ} {n : ℕ} (f : ℕ → ℕ) → Copied from entry n exit → n ≤ length from

@@ -4,7 +4,7 @@ ghost use Rattle.bitrows.specs.inside.Growth.{LeafAt};
 ghost use Rattle.packed.specs.inside.Steps.{shape_of};
 ghost use Rattle.growing.specs.inside.Steps.{Few, HoldsLeaf, HeldLeaf, Growable, GrewAt};
 
-use bitrows::{NODES, carried, leaf_at, opened};
+use bitrows::{NODES, carried, find_leaf, opened};
 use packed::checking::numbers_of;
 use refusals::{LeafNumber, NodeNumber};
 
@@ -33,7 +33,7 @@ pub fn leaf_node(numbers: &[u64], summary: &[u16], nodes: usize, leaf: LeafNumbe
 {
     let j = number_of_leaf(summary, numbers_of(nodes), leaf);
     let before = NODES * j - usize::from(summary[j]);
-    NodeNumber(NODES * j + leaf_at(numbers[j], usize::from(leaf.0) - before).unwrap())
+    NodeNumber(NODES * j + find_leaf(numbers[j], usize::from(leaf.0) - before).unwrap())
 }
 
 // A number of the shape; there is none behind those used.

@@ -20,7 +20,10 @@ pub fn record_to_tree_pair(
 {
     let mut b = [0u16; LIMIT + 1];
     let mut a = [0u16; LIMIT + 1];
-    records::record_to_tables(record, &mut b, &mut a)?;
+    let read = records::record_to_tables(record, &mut b, &mut a);
+    let Ok(()) = read else {
+        return Err(read.unwrap_err());
+    };
     match trees::write_pair(&b, &a, t_minus, t_plus) {
         Ok(n) => Ok(n),
         Err(Failure::Refused(r)) => Err(r),
@@ -41,7 +44,10 @@ fn measured<F: FnOnce(&[u16], &[u16]) -> Option<usize>>(
 {
     let mut b = [0u16; LIMIT + 1];
     let mut a = [0u16; LIMIT + 1];
-    records::record_to_tables(record, &mut b, &mut a)?;
+    let read = records::record_to_tables(record, &mut b, &mut a);
+    let Ok(()) = read else {
+        return Err(read.unwrap_err());
+    };
     match measure(&b, &a) {
         Some(n) => Ok(n),
         None => unreachable!(),

@@ -6,7 +6,6 @@ ghost use Rattle.numerals.specs.Decimals.{decimal};
 ghost use Rattle.printing.specs.inside.Printing.{Put, Placed};
 
 // All bytes of a list, if they fit.
-#[tactic(auto, using(crate::proofs::Fitting::placed_all))]
 pub fn place(bytes: &[u8], out: &mut [u8], at: usize) -> Option<usize>
     ensures { Placed bytes.now out.old at out.new result }
 {
@@ -14,7 +13,7 @@ pub fn place(bytes: &[u8], out: &mut [u8], at: usize) -> Option<usize>
     if out.len() < end {
         return None;
     }
-    out[at..end].copy_from_slice(bytes);
+    copying::copy_bytes(bytes, &mut out[at..end]);
     Some(end)
 }
 

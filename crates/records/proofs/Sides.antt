@@ -69,11 +69,11 @@ module _ (s : List ℕ) (b a : ℕ) (e : FramedBy s b a) where
   above_sides : Bytes s → is_above s ≡ bytes_below (fields (a_body s) (b_body s)) (fields (b_body s) (a_body s))
   above_sides bytes = ap (bytes_below (exchanged s)) (sides_written bytes)
 
-  sides_shorter : Bytes s → b < a → false ≡ is_above s
+  pub sides_shorter : Bytes s → b < a → false ≡ is_above s
   sides_shorter bytes h =
       sym (above_sides bytes ∙ above_shorter (b_body s) (a_body s) (omega (arith, h, long_b, long_a)))
 
-  sides_longer : Bytes s → a < b → true ≡ is_above s
+  pub sides_longer : Bytes s → a < b → true ≡ is_above s
   sides_longer bytes h =
       sym (above_sides bytes ∙ above_longer (b_body s) (a_body s) (omega (arith, h, long_b, long_a)))
 

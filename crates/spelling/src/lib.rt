@@ -15,7 +15,10 @@ pub fn record_to_word(record: &[u8], word: &mut [u8]) -> Result<usize, Refusal>
 {
     let mut b = [0u16; LIMIT + 1];
     let mut a = [0u16; LIMIT + 1];
-    records::record_to_tables(record, &mut b, &mut a)?;
+    let read = records::record_to_tables(record, &mut b, &mut a);
+    let Ok(()) = read else {
+        return Err(read.unwrap_err());
+    };
     let letters = counting::count(&b, &a);
     if LIMIT < letters {
         return Err(Refusal::LongSpelling);

@@ -5,7 +5,7 @@
 #![tactic(auto)]
 
 use crate::memory::Call;
-use crate::reading::Given;
+use crate::reading::{Given, Row};
 use cases::{counts, parts};
 
 mod both;
@@ -35,9 +35,9 @@ const OTHER: usize = 4200;
 fn answer(line: &[u8]) {
     let mut first = [0u8; GIVEN];
     let mut second = [0u8; OTHER];
-    let row = parts::behind(line, NAME);
-    let given = Given::read(row, 1, &mut first);
-    let other = Given::read(row, 5, &mut second);
+    let mut row = Row::behind(line, NAME);
+    let given = Given::read(&mut row, &mut first);
+    let other = Given::read(&mut row, &mut second);
     match line {
         [b'#', ..] => {}
         [b'g', ..] => spheres::print(),

@@ -1,5 +1,6 @@
 -- The whole tree, written from its first leaf: the exponents of the n first leaves decide it. A table with fewer
--- entries is copied to the front of zeros, which has the same tree. Assumes nothing.
+-- entries is copied to the front of zeros, which has the same tree (`padded_tree`, of the list that then stands;
+-- `copied_tree`, of any list that is so copied). Assumes nothing.
 use mathlib.Core.Path.{◌≡◌, refl, sym, ap, ◌∙◌, ◌≡⟨◌⟩◌, ◌∎}
 use mathlib.Core.List.{List, [], ◌∷◌, ◌++◌, append-nil}
 use Prim.Native.Nat.{ℕ, zero, suc, ◌<◌, ◌≤◌}
@@ -9,7 +10,10 @@ use lib.ListN.{length, length-append, length-drop, take, drop, get_or, replicate
 use lib.ListN.{get_or-eq_default}
 use lib.Seq.{get_or-take}
 use Rattle.lists.specs.inside.Entries.{SameEntries}
+use Rattle.lists.specs.Tables.{filled}
+use Rattle.lists.proofs.Tables.{filled_at, filled-beyond}
 use Rattle.lists.proofs.Totals.{same_replicate}
+use Rattle.copying.specs.inside.Copying.{Copied}
 use Rattle.trees.specs.Trees.{carets}
 use Rattle.trees.specs.Building.{needed, tree_of}
 use Rattle.trees.specs.Pairs.{max_carets}
@@ -84,3 +88,25 @@ module _ {e : List ℕ} {n : ℕ} {buffer : List ℕ} (f : ShapeFits e n buffer)
 
   pub padded_tree : tree_of n (front ++ drop (length e) (replicate m 0)) ≡ tree_of n e
   padded_tree = tree_same n _ e padded_same
+
+-- The entries of a table, copied to the front of zeros, are its entries.
+copied_same : (e : List ℕ) (m : ℕ) → SameEntries (filled (length e) (λ i. get_or e i 0) (replicate m 0)) e
+copied_same e m i = go (dec_lt i (length e))
+  where
+    go : Dec (i < length e) → get_or (filled (length e) (λ j. get_or e j 0) (replicate m 0)) i 0 ≡ get_or e i 0
+    go (yes h) = filled_at (length e) (λ j. get_or e j 0) (replicate m 0) i h
+    go (no h) =
+        filled-beyond (length e) (λ j. get_or e j 0) (replicate m 0) i (omega arith)
+        ∙ same_replicate m i
+        ∙ sym (get_or-eq_default e 0 (omega arith))
+
+-- So what is copied has the same tree.
+pub copied_tree : {e : List ℕ} (n m : ℕ) → length e ≤ m → {table : List ℕ}
+    → Copied e (replicate m 0) (length e) table → tree_of n table ≡ tree_of n e
+copied_tree {e} n m few {table} copied = tree_same n table e same
+  where
+    room : length e ≤ length (replicate {A = ℕ} m 0)
+    room = omega (arith, length-replicate {A = ℕ} m 0, few)
+
+    same : SameEntries table e
+    same i = ap (λ (t : List ℕ). get_or t i 0) (copied.fits (omega arith) room) ∙ copied_same e m i

@@ -15,7 +15,8 @@ struct Tally {
     carets: usize,
 }
 
-// Whether a block of zeros ends at a place.
+// Whether a block of zeros ends at a place. Inlined, as `known_zeros` is.
+#[inline(always)]
 fn zeros_before(e: &[u16], end: usize) -> bool
     ensures { result ≡ true → ZerosBefore e.now end }
 {

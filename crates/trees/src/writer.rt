@@ -23,11 +23,16 @@ pub struct Place {
     pub at: usize,
 }
 
-// n carets in a row and a leaf; answers the place behind.
+// n carets in a row and a leaf; answers the place behind. No caret begins at most leaves: these take a short way of
+// their own, without the `fill`.
 fn put_leaf(shape: &mut [u8], at: usize, n: usize) -> usize
     requires { at + n < length shape.old }
     ensures { Wrote (replicate n 1 ++ (0 ∷ [])) shape.old at shape.new result }
 {
+    if n == 0 {
+        shape[at] = 0;
+        return at + 1;
+    }
     shape[at..at + n].fill(1);
     shape[at + n] = 0;
     at + n + 1
@@ -57,11 +62,12 @@ fn write_subtree(e: &[u16], from: Place, shape: &mut [u8]) -> Place
     // No `for`: how many leaves the subtree has is known once none is pending.
     while pending > 0 {
         let n = leaf_exponent(e, place.leaf);
+        // In front of `put_leaf`, whose test of n then serves here too.
+        pending = pending - 1 + n;
         place = Place {
             leaf: LeafNumber(place.leaf.0 + 1),
             at: put_leaf(shape, place.at, n),
         };
-        pending = pending - 1 + n;
     }
     place
 }

@@ -49,7 +49,7 @@ abbrev pub classes_of : List ℕ → List Class
 classes_of [] = []
 classes_of (b ∷ bs) = class_of b ∷ classes_of bs
 
--- The kind that a case of the enum names.
+-- The kind that a case of the enum names, and its row and column.
 abbrev pub kind_named : CaretKind → Kind
 kind_named Named.R0 = R0
 kind_named Named.RN = RN
@@ -57,6 +57,14 @@ kind_named Named.RI = RI
 kind_named Named.LL = LL
 kind_named Named.I0 = I0
 kind_named Named.IR = IR
+
+abbrev pub index_of : CaretKind → ℕ
+index_of Named.R0 = 0
+index_of Named.RN = 1
+index_of Named.RI = 2
+index_of Named.LL = 3
+index_of Named.I0 = 4
+index_of Named.IR = 5
 
 -- The label that a case of the enum names.
 abbrev pub label_named : CaretLabel → Label

@@ -1,24 +1,18 @@
 -- `record_to_word` meets its contract. Assumes nothing.
 use native.Mathlib.Omega.{arith}
 use borrow.Author.Rules.{rules}
-use Rattle.std.proofs.lemmas.Result.{err_from_is_err_and}
 use Rattle.records.proofs.ClearedTables.{own_cleared}
-use Rattle.spelling.proofs.Answers.{word_refused, word_long, word_short, word_answer}
+use Rattle.spelling.proofs.Answers.{word_long, word_short, word_answer}
 use Rattle.spelling.proofs.record_to_word.Goals as goal
-
-pub returns-in_err-record_to_tables : goal.returns-in_err-record_to_tables
-returns-in_err-record_to_tables c =
-    let p = err_from_is_err_and c.from_residual.result c.from_residual.ensures.1 in
-    rw p.1 (word_refused own_cleared c.record_to_tables.ensures (rw (← p.2) at c.in_err-record_to_tables.was))
 
 pub returns-then-letters-gt-LIMIT : goal.returns-then-letters-gt-LIMIT
 returns-then-letters-gt-LIMIT c =
-    word_long own_cleared c.record_to_tables.ensures c.in_ok-record_to_tables.was
+    word_long own_cleared c.record_to_tables-read.ensures c.in-Ok.is
     c.count-letters.result c.count-letters.ensures (omega arith)
 
 pub returns-then-word-letters : goal.returns-then-word-letters
 returns-then-word-letters c =
-    word_short own_cleared c.record_to_tables.ensures c.in_ok-record_to_tables.was
+    word_short own_cleared c.record_to_tables-read.ensures c.in-Ok.is
     c.count-letters.result c.count-letters.ensures (omega arith) (omega arith)
 
 pub write-requires : goal.write-requires
@@ -30,5 +24,5 @@ write-requires c =
 
 pub returns : goal.returns
 returns c =
-    word_answer own_cleared c.record_to_tables.ensures c.in_ok-record_to_tables.was
+    word_answer own_cleared c.record_to_tables-read.ensures c.in-Ok.is
     c.count-letters.result c.count-letters.ensures (omega arith) (omega arith) c.write.ensures

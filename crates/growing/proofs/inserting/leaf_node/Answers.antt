@@ -22,10 +22,10 @@ overflow_sub-before c =
 
 pub unwrap-requires : goal.unwrap-requires
 unwrap-requires c =
-    leaf_there c.leaf_at.result c.requires (holds_of c.numbers_of.ensures c.number_of_leaf-j.ensures)
-    (rw (c.from.ensures, c.from-2.ensures) at c.leaf_at.ensures)
+    leaf_there c.find_leaf.result c.requires (holds_of c.numbers_of.ensures c.number_of_leaf-j.ensures)
+    (rw (c.from.ensures, c.from-2.ensures) at c.find_leaf.ensures)
 
 pub returns : goal.returns
 returns c =
-    let found = rw (c.from.ensures, c.from-2.ensures) at c.leaf_at.ensures in
+    let found = rw (c.from.ensures, c.from-2.ensures) at c.find_leaf.ensures in
     leaf_found c.requires (holds_of c.numbers_of.ensures c.number_of_leaf-j.ensures) (rw c.unwrap.ensures at found)

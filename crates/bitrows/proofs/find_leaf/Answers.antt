@@ -1,4 +1,4 @@
--- `leaf_at` meets its contract. Assumes nothing.
+-- `find_leaf` meets its contract. Assumes nothing.
 use mathlib.Core.Path.{◌≡◌, refl, sym, ap, subst, ◌∙◌}
 use mathlib.Core.List.{List}
 use Prim.Native.Nat.{ℕ}
@@ -11,7 +11,7 @@ use Rattle.std.proofs.lemmas.Iterator.Consumers.{YieldsList-from_filter, nth_fro
 use Rattle.std.proofs.lemmas.Option.{unwrap_or-slice_get}
 use Rattle.bitrows.specs.inside.Growth.{FoundLeaf}
 use Rattle.bitrows.proofs.Searching.{is_leaf, leaves_of, leaf_sought}
-use Rattle.bitrows.proofs.leaf_at.Goals as goal
+use Rattle.bitrows.proofs.find_leaf.Goals as goal
 
 -- What `unwrap_or` gives of an element that may be missing.
 element : (o : Option ℕ) (xs : List ℕ) (k d : ℕ) → option_map (λ x. x) o ≡ slice_get xs k
