@@ -19,12 +19,10 @@ struct Arguments<'a> {
 fn put(bytes: &[u8], out: &mut [u8]) -> Result<usize, FillError>
     ensures bound { WritesAtMost result out.new }
 {
-    let n = bytes.len();
-    if n > out.len() {
+    if bytes.len() > out.len() {
         return Err(FillError::TooLong);
     }
-    out[..n].copy_from_slice(bytes);
-    Ok(n)
+    Ok(copying::copy_bytes(bytes, out))
 }
 
 impl Env for Arguments<'_> {
