@@ -1,44 +1,27 @@
 -- Bytes that fit and bytes that do not; the digits of a number of 64 bits fit in 20 bytes. Assumes nothing.
-use mathlib.Core.Path.{◌≡◌, sym, ap, ap₂, subst, ◌∙◌}
-use mathlib.Core.List.{List, ◌++◌, append_assoc, append-nil}
-use Prim.Native.Nat.{ℕ, ◌+◌, ◌-◌, ◌^◌, ◌<◌, ◌≤◌, min}
+use mathlib.Core.Path.{◌≡◌, sym, ap, subst}
+use mathlib.Core.List.{List, append_assoc}
+use Prim.Native.Nat.{ℕ, ◌+◌, ◌-◌, ◌^◌, ◌<◌, ◌≤◌}
 use native.Mathlib.Omega.{arith}
 use borrow.Rule.Slice.PartMut.{put_mid}
-use lib.ListN.{length, length-take, length-drop, take, drop, drop_of_length-le}
+use lib.ListN.{length}
 use lib.Seq.{sets, sets-eq, length-sets, drop-drop}
-use Rattle.std.proofs.lemmas.List.{take_all}
 use Rattle.std.specs.Prelude.{Option, Some}
 use Rattle.lists.specs.inside.Writes.{Wrote}
 use Rattle.numerals.specs.Decimals.{decimal}
 use Rattle.numerals.proofs.Decimals.{decimal-length}
 use Rattle.printing.specs.inside.Printing.{Put, Placed}
 
--- As many bytes as a part has are copied to it: it is these bytes.
-copied_whole : (bytes part : List ℕ) {new : List ℕ} {n : ℕ} → length part ≡ length bytes
-    → n ≡ min (length bytes) (length part) → new ≡ take n bytes ++ drop n part → new ≡ bytes
-copied_whole bytes part {new} {n} size count copied =
-    copied
-    ∙ ap₂ (λ (x y : List ℕ). x ++ y) (take_all n bytes (omega arith)) (drop_of_length-le part (omega arith))
-    ∙ append-nil bytes
-
 -- The bytes, in front of what stands behind them.
-pub placed_all : {bytes entry new : List ℕ} {at end : ℕ} (n : ℕ) → end ≡ at + length bytes → end ≤ length entry
-    → n ≡ min (length bytes) (length (take (end - at) (drop at entry)))
-    → new ≡ take n bytes ++ drop n (take (end - at) (drop at entry))
+pub placed_all : {bytes entry new : List ℕ} {at end : ℕ} → end ≡ at + length bytes → end ≤ length entry → new ≡ bytes
     → Placed bytes entry at (put_mid at (end - at) entry new) (Some end)
-placed_all {bytes} {entry} {new} {at} {end} n e room count copied = record {
+placed_all {bytes} {entry} {new} {at} {end} e room same = record {
   fits = λ _. (ap Some e, holds);
   over = λ short. absurd (omega arith);
 }
   where
     size : end - at ≡ length bytes
     size = omega arith
-
-    whole : length (take (end - at) (drop at entry)) ≡ length bytes
-    whole = simp (length-take, length-drop) (omega arith)
-
-    same : new ≡ bytes
-    same = copied_whole bytes _ whole count copied
 
     holds : put_mid at (end - at) entry new ≡ sets entry at bytes
     holds =

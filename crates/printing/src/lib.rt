@@ -6,6 +6,7 @@ ghost use Rattle.numerals.specs.Decimals.{decimal};
 ghost use Rattle.printing.specs.inside.Printing.{Put, Placed};
 
 // All bytes of a list, if they fit.
+#[tactic(auto, using(crate::proofs::Fitting::placed_all))]
 pub fn place(bytes: &[u8], out: &mut [u8], at: usize) -> Option<usize>
     ensures { Placed bytes.now out.old at out.new result }
 {
@@ -13,7 +14,7 @@ pub fn place(bytes: &[u8], out: &mut [u8], at: usize) -> Option<usize>
     if out.len() < end {
         return None;
     }
-    copying::copy_bytes(bytes, &mut out[at..end]);
+    out[at..end].copy_from_slice(bytes);
     Some(end)
 }
 
