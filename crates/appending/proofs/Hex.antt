@@ -9,7 +9,7 @@ use Rattle.io.specs.Digits.{hex_digit_ascii}
 use Rattle.lists.specs.inside.Writes.{Wrote}
 use Rattle.lists.proofs.Writes.{wrote_same}
 use Rattle.appending.specs.Hexadecimal.{hex_of}
-use Rattle.appending.proofs.Loops.{Passing, pass_length}
+use Rattle.printing.proofs.Loops.{Passing, pass_length}
 
 -- Two digits for each byte.
 pub hex_length : (s : List ℕ) → length (hex_of s) ≡ 2 * length s

@@ -1,4 +1,3 @@
 -- Laws of text that is appended, of loops that write, and of hexadecimal digits.
-pub mod Loops
 pub mod Hex
 pub mod Appending

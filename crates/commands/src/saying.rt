@@ -70,7 +70,8 @@ pub fn refuse(r: Refusal, out: &mut [u8; ANSWER]) -> Answer
     close(end, true, out)
 }
 
-// The answer to a reply: its line, or the refusal.
+// The answer to a reply: its line, or the refusal. Inlined, so that a reply is not stored to be read again.
+#[inline(always)]
 pub(crate) fn answer(reply: Result<usize, Refusal>, out: &mut [u8; ANSWER]) -> Answer
     ensures { Answered reply out.old out.new result }
 {

@@ -74,6 +74,8 @@ pub fn draw_read(
 }
 
 // The picture of a word or a text. What is sent has a record, so that 0 stands for no count.
+// Never inlined: its rooms would be taken on the stack for each line of words, with a picture or without.
+#[inline(never)]
 pub fn draw_word(
     style: Style,
     line: &[u8],

@@ -48,7 +48,9 @@ impl Output {
         write(front(&self.held, used))
     }
 
-    // Puts an answer behind those that are held; they are written first where it may not fit.
+    // Puts an answer behind those that are held; they are written first where it may not fit. Inlined, so that the
+    // compiler sees both buffers and copies in one piece.
+    #[inline(always)]
     pub fn keep(
         &mut self,
         answer: &[u8; ANSWER],

@@ -16,7 +16,8 @@ pub fn copy_front(from: &[u16], table: &mut [u16], n: usize)
 }
 
 // As many bytes as both have, from the front of one to the front of another; the answer is how many.
-// Byte by byte: a `copy_from_slice` would be compiled to a call of `memmove`, and each archive for C would need it.
+// Byte by byte: where the compiler does not see both buffers, it makes a `copy_from_slice` a call of `memmove`, which
+// the archive `console_c` would then need from outside.
 pub fn copy_bytes(from: &[u8], to: &mut [u8]) -> usize
     ensures count { result ≡ min (length from.now) (length to.old) }
     ensures copied { to.new ≡ take result from.now ++ drop result to.old }

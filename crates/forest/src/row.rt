@@ -71,8 +71,8 @@ fn parted(byte: u8, last: u16, s: State, lefts: &[u16], rights: &[u16], stack: &
     }
 }
 
-// One letter, in constant time. An arm for each letter: one of both together is a test of a range in front of that of the
-// letter, which a word of one letter feels.
+// One letter, in constant time. An arm for each letter: one of both together is a test of a range in front of that of
+// the letter, which a word of one letter feels.
 fn step(
     byte: u8,
     last: u16,

@@ -58,42 +58,34 @@ fn keep(bytes: &mut [u8], held: usize, x: u8) -> usize
     held
 }
 
-// One digit more. Whatever number waits in `high`, the byte is one: it is taken below 16.
-fn take_digit(v: u8, bytes: &mut [u8], m: Amid) -> Amid
+// One digit more. Whatever number waits in `high`, the byte is one: it is taken below 16. What is kept is changed in
+// its place, here and in `step`: a new one for each character was copied whole, with the bytes between its fields.
+fn take_digit(v: u8, bytes: &mut [u8], m: &mut Amid)
     requires { v < 16 }
-    ensures { taken bytes.new result ≡ with_digit bytes.old m v }
+    ensures { taken bytes.new m.new ≡ with_digit bytes.old m.old v }
 {
-    let offset = m.offset.wrapping_add(1);
+    m.offset = m.offset.wrapping_add(1);
+    m.stray = false;
     match m.high {
-        Some(high) => Amid {
-            held: keep(bytes, m.held, 16 * (high % 16) + v),
-            high: None,
-            offset,
-            stray: false,
-        },
-        None => Amid {
-            held: m.held,
-            high: Some(v),
-            offset,
-            stray: false,
-        },
+        Some(high) => {
+            m.held = keep(bytes, m.held, 16 * (high % 16) + v);
+            m.high = None;
+        }
+        None => m.high = Some(v),
     }
 }
 
 // One character more.
-fn step(c: u8, bytes: &mut [u8], m: Amid) -> Amid
-    ensures { taken bytes.new result ≡ hex_step bytes.old m c }
+fn step(c: u8, bytes: &mut [u8], m: &mut Amid)
+    ensures { taken bytes.new m.new ≡ hex_step bytes.old m.old c }
 {
     if m.stray {
-        return m;
+        return;
     }
     match value(c) {
         Some(v) => take_digit(v, bytes, m),
-        None if m.high.is_none() && is_blank(c) => Amid {
-            offset: m.offset.wrapping_add(1),
-            ..m
-        },
-        None => Amid { stray: true, ..m },
+        None if m.high.is_none() && is_blank(c) => m.offset = m.offset.wrapping_add(1),
+        None => m.stray = true,
     }
 }
 
@@ -103,7 +95,7 @@ pub fn read(chars: &[u8], bytes: &mut [u8], amid: Amid) -> Amid
 {
     let mut m = amid;
     for &c in chars {
-        m = step(c, bytes, m);
+        step(c, bytes, &mut m);
     }
     m
 }

@@ -1,31 +1,15 @@
 -- Bytes that fit and bytes that do not; the digits of a number of 64 bits fit in 20 bytes. Assumes nothing.
-use mathlib.Core.Path.{◌≡◌, sym, ap, subst}
-use mathlib.Core.List.{List, append_assoc}
-use Prim.Native.Nat.{ℕ, ◌+◌, ◌-◌, ◌^◌, ◌<◌, ◌≤◌}
+use mathlib.Core.Path.{◌≡◌, ap, subst}
+use mathlib.Core.List.{List}
+use Prim.Native.Nat.{ℕ, ◌+◌, ◌^◌, ◌<◌, ◌≤◌}
 use native.Mathlib.Omega.{arith}
-use borrow.Rule.Slice.PartMut.{put_mid}
 use lib.ListN.{length}
-use lib.Seq.{sets, sets-eq, length-sets, drop-drop}
-use Rattle.std.specs.Prelude.{Option, Some}
+use lib.Seq.{length-sets}
+use Rattle.std.specs.Prelude.{Option}
 use Rattle.lists.specs.inside.Writes.{Wrote}
 use Rattle.numerals.specs.Decimals.{decimal}
 use Rattle.numerals.proofs.Decimals.{decimal-length}
 use Rattle.printing.specs.inside.Printing.{Put, Placed}
-
--- The bytes, in front of what stands behind them.
-pub placed_all : {bytes entry new : List ℕ} {at end : ℕ} → end ≡ at + length bytes → end ≤ length entry → new ≡ bytes
-    → Placed bytes entry at (put_mid at (end - at) entry new) (Some end)
-placed_all {bytes} {entry} {new} {at} {end} e room same = record {
-  fits = λ _. (ap Some e, holds);
-  over = λ short. absurd (omega arith);
-}
-  where
-    size : end - at ≡ length bytes
-    size = omega arith
-
-    holds : put_mid at (end - at) entry new ≡ sets entry at bytes
-    holds =
-        simp (same, size, drop-drop, ← append_assoc) (sym (sets-eq bytes entry at (omega arith)))
 
 -- The same bytes by another name.
 pub placed_same : {a b entry exit : List ℕ} {at : ℕ} {end : Option ℕ} → a ≡ b → Placed a entry at exit end

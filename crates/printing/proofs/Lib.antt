@@ -1,2 +1,3 @@
--- Laws of bytes put at a place of a buffer: whether the bytes fit.
+-- Laws of bytes put at a place of a buffer: loops that write, and whether the bytes fit.
+pub mod Loops
 pub mod Fitting

@@ -5,8 +5,7 @@
 ghost use Rattle.numerals.specs.Decimals.{decimal};
 ghost use Rattle.printing.specs.inside.Printing.{Put, Placed};
 
-// All bytes of a list, if they fit.
-#[tactic(auto, using(crate::proofs::Fitting::placed_all))]
+// All bytes of a list, if they fit. Byte by byte, as `copying::copy_bytes` does, and for its reason.
 pub fn place(bytes: &[u8], out: &mut [u8], at: usize) -> Option<usize>
     ensures { Placed bytes.now out.old at out.new result }
 {
@@ -14,7 +13,9 @@ pub fn place(bytes: &[u8], out: &mut [u8], at: usize) -> Option<usize>
     if out.len() < end {
         return None;
     }
-    out[at..end].copy_from_slice(bytes);
+    for i in 0..bytes.len() {
+        out[at + i] = bytes[i];
+    }
     Some(end)
 }
 

@@ -2,7 +2,7 @@ use Rattle.std.proofs.Common.{[], ◌∷◌, ◌/◌, ◌%◌, get_or, refl, ari
 use lib.ListN.{length-set}
 use Rattle.io.specs.Digits.{hex_digit_ascii}
 use Rattle.appending.specs.Hexadecimal.{hex_of}
-use Rattle.appending.proofs.Loops.{pass_start, pass_length, pass_more, pass_done}
+use Rattle.printing.proofs.Loops.{pass_start, pass_length, pass_more, pass_done}
 use Rattle.appending.proofs.Hex.{hex_length, hex_room, hex_wrote}
 use Rattle.appending.proofs.Appending.{append_all, append_over}
 use Rattle.appending.proofs.append_hex.Goals as goal
