@@ -1,3 +1,3 @@
--- Laws of text that is appended, of loops that write, and of hexadecimal digits.
+-- Laws of text that is appended, and of hexadecimal digits.
 pub mod Hex
 pub mod Appending
